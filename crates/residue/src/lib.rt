@@ -1,0 +1,1 @@
+// The laws of remainders stand in specs/. There is no code here.
