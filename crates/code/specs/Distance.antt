@@ -1,0 +1,136 @@
+-- DISTANCE (Theorem 3.1 of the paper, one direction): two good tiles that agree outside two lines are equal, for any two lines. Two
+-- columns or two rows ask nothing of the slope but that it is from 2 to p-2; a row with a column asks that its powers reach all.
+-- Assumes nothing.
+use mathlib.Core.Path.{_≡_, refl, sym, ap, ap₂, _∙_}
+use mathlib.Core.Logic.{_≢_, _⊎_, inl, inr, ⊎-elim}
+use mathlib.Core.Bool.{Bool, true, false}
+use mathlib.Core.List.{List}
+use Prim.Native.Nat.{ℕ, suc, _+_, _-_, _*_, _%_, _<_, _≤_}
+use native.Mathlib.Nat.{mod-lt, eq-or-lt-of-le}
+use native.Mathlib.Decide.{ℕ-discrete}
+use native.Mathlib.Omega.{arith}
+use lib.Dec.{ltb}
+use lib.ListN.{length}
+use borrow.Author.Tests.{lt-ltb, ltb-true}
+use Rattle.xor.specs.Xor.{_⊕_, self, eq-of-zero}
+use Rattle.xor.specs.Sum.{keep}
+use Rattle.residue.specs.Remainder.{before, before-step}
+use Rattle.residue.specs.Power.{ReachesAll}
+use Rattle.code.specs.Size.{Size, Allowed, Slope, allowed-slope, slope-pos, slope-inverse}
+use Rattle.code.specs.Tile.{Cells, tileLength, cell, OneSum, Good, On, EqualOutsideBoth}
+use Rattle.code.specs.Sums.{Padded, plus, padded-plus, one-sum-plus, Same}
+use Rattle.code.specs.Place.{cell-padded, cells-determine, same-within}
+use Rattle.code.specs.Turn.{turned, good-turned, padded-turned}
+use Rattle.code.specs.OneLine.{number}
+use Rattle.code.specs.Pair.{ZeroOffBoth, line-zero, pair-zero}
+use Rattle.code.specs.Columns.{rowBy, stopBy, columns-hops}
+use Rattle.code.specs.Crossed.{cellBy, crossed-hops}
+use Rattle.code.specs.declared.Line.{Line}
+use Rattle.code.specs.declared.Line.the-variants.{Row, Column}
+
+-- two rows, or two columns
+abbrev pub Parallel : Line → Line → Type 0
+Parallel (Row r) (Row s) = Unit {0}
+Parallel (Row r) (Column d) = ⊥
+Parallel (Column c) (Row s) = ⊥
+Parallel (Column c) (Column d) = Unit {0}
+
+-- no cell but zeros
+abbrev pub Blank : ℕ → Cells → Type 0
+Blank p D = (i j : ℕ) → i < p → j < p → D i j ≡ 0
+
+columns-blank : (p l u v : ℕ) (D : Cells) → Slope p l → u < p → v < p → OneSum p l D → Padded p D → ZeroOffBoth p (Column u) (Column v) D → Blank p D
+columns-blank p l u v D S hu hv good padded off = go (ℕ-discrete u v)
+  where
+    t : (m : ℕ) × (l * m % p ≡ 1) × Slope p m
+    t = slope-inverse p l S
+
+    go : Dec (u ≡ v) → Blank p D
+    go (yes e) = line-zero p l (t .0) (Column v) D (t .1) hv good padded (λ i j hi hj d. off i j hi hj (λ q. d (q ∙ e)) d)
+    go (no d) =
+        let k : ℕ = before p ((l - 1) * u) ((l - 1) * v % p) in
+        pair-zero p l (t .0) u (Column v) p (rowBy p k) (stopBy p k u v) D (t .1) hu hv
+        (columns-hops p l u v k (S .prime) (S .low) (omega (arith, S .high)) hu hv d (before-step p ((l - 1) * u) ((l - 1) * v % p) (mod-lt _ (omega arith))))
+        good padded off
+
+crossed-blank : (p l s t : ℕ) (D : Cells) → Slope p l → ReachesAll p l → s < p - 1 → t < p → OneSum p l D → Padded p D
+    → ZeroOffBoth p (Column t) (Row s) D → Blank p D
+crossed-blank p l s t D S all hs ht good padded off =
+    let i = slope-inverse p l S in
+    pair-zero p l (i .0) t (Row s) (p - 1) (cellBy p l s s) (cellBy p l s t) D (i .1) ht (omega arith)
+    (crossed-hops p l s t (S .prime) (slope-pos p l S) all hs ht) good padded off
+
+-- a good tile that is zero outside two lines is zero
+pub lines-blank : (p l : ℕ) (a b : Line) (D : Cells) → Slope p l → (Parallel a b) ⊎ (ReachesAll p l) → number a < p - 1 → number b < p - 1
+    → OneSum p l D → Padded p D → ZeroOffBoth p a b D → Blank p D
+lines-blank p l (Column u) (Column v) D S h ha hb good padded off = columns-blank p l u v D S (omega arith) (omega arith) good padded off
+lines-blank p l (Row r) (Row s) D S h ha hb good padded off = λ i j hi hj.
+    let t = slope-inverse p l S in
+    columns-blank p (t .0) r s (turned D) (t .2) (omega arith) (omega arith) (good-turned p l (t .0) D (t .1) .0 good) (padded-turned p D padded)
+    (λ i j hi hj d e. off j i hj hi d e) j i hj hi
+lines-blank p l (Column t) (Row s) D S (inl h) ha hb good padded off = absurd h
+lines-blank p l (Column t) (Row s) D S (inr all) ha hb good padded off = crossed-blank p l s t D S all hb (omega arith) good padded off
+lines-blank p l (Row s) (Column t) D S (inl h) ha hb good padded off = absurd h
+lines-blank p l (Row s) (Column t) D S (inr all) ha hb good padded off =
+    crossed-blank p l s t D S all ha (omega arith) good padded (λ i j hi hj d e. off i j hi hj e d)
+
+-- ---- of lists of bytes
+
+-- a padded tile is zero outside two lines if it is so within the tile
+pub within-off : (p : ℕ) (a b : Line) (D : Cells) → Padded p D
+    → ((i j : ℕ) → i < p - 1 → j < p - 1 → (On a i j → ⊥) → (On b i j → ⊥) → D i j ≡ 0) → ZeroOffBoth p a b D
+within-off p a b D padded h i j hi hj d e = go (eq-or-lt-of-le hi) (eq-or-lt-of-le hj)
+  where
+    go : (suc i ≡ p) ⊎ (suc i < p) → (suc j ≡ p) ⊎ (suc j < p) → D i j ≡ 0
+    go (inl q) r = let w : i ≡ p - 1 = omega arith in rw w (padded .row j hj)
+    go (inr l) (inl q) = let w : j ≡ p - 1 = omega arith in rw w (padded .column i hi)
+    go (inr l) (inr m) = h i j (omega arith) (omega arith) d e
+
+-- a line that the tile does not have holds no cell of it: line 0 stands for it
+abbrev kept : ℕ → Line → Line
+kept p (Row r) = Row (keep (ltb r (p - 1)) r)
+kept p (Column c) = Column (keep (ltb c (p - 1)) c)
+
+kept-lt : (p : ℕ) (a : Line) → 1 < p → number (kept p a) < p - 1
+kept-lt p a h = go a
+  where
+    at : (n : ℕ) (b : Bool) → ltb n (p - 1) ≡ b → keep b n < p - 1
+    at n true e = ltb-true n (p - 1) e
+    at n false e = omega arith
+
+    go : (a : Line) → number (kept p a) < p - 1
+    go (Row r) = at r (ltb r (p - 1)) refl
+    go (Column c) = at c (ltb c (p - 1)) refl
+
+kept-on : (p : ℕ) (a : Line) (i j : ℕ) → i < p - 1 → j < p - 1 → On a i j → On (kept p a) i j
+kept-on p (Row r) i j hi hj e = rw (lt-ltb r (p - 1) (omega arith)) e
+kept-on p (Column c) i j hi hj e = rw (lt-ltb c (p - 1) (omega arith)) e
+
+kept-parallel : (p : ℕ) (a b : Line) → Parallel a b → Parallel (kept p a) (kept p b)
+kept-parallel p (Row r) (Row s) h = h
+kept-parallel p (Row r) (Column d) h = h
+kept-parallel p (Column c) (Row s) h = h
+kept-parallel p (Column c) (Column d) h = h
+
+-- two good tiles that agree outside any two lines are equal
+pub equal-tiles : (p l : ℕ) (a b : Line) (x y : List ℕ) → Slope p l → (Parallel a b) ⊎ (ReachesAll p l)
+    → length x ≡ tileLength p → length y ≡ tileLength p → Good p l x → Good p l y → EqualOutsideBoth p a b x y → x ≡ y
+equal-tiles p l a b x y S h ex ey gx gy same =
+    cells-determine p x y (omega arith) ex ey (λ i j hi hj. eq-of-zero _ _
+    (lines-blank p l (kept p a) (kept p b) D S (⊎-elim (λ q. inl (kept-parallel p a b q)) inr h) (kept-lt p a (omega arith)) (kept-lt p b (omega arith))
+    (one-sum-plus p l (cell p x) (cell p y) gx gy) padded off i j (omega arith) (omega arith)))
+  where
+    D : Cells
+    D = plus (cell p x) (cell p y)
+
+    padded : Padded p D
+    padded = padded-plus p (cell p x) (cell p y) (cell-padded p x) (cell-padded p y)
+
+    off : ZeroOffBoth p (kept p a) (kept p b) D
+    off = within-off p (kept p a) (kept p b) D padded (λ i j hi hj d e.
+        ap (λ (z : ℕ). z ⊕ cell p y i j) (same i j hi hj (λ o. d (kept-on p a i j hi hj o)) (λ o. e (kept-on p b i j hi hj o))) ∙ self _)
+
+-- THE DISTANCE, as document 01's slopes have it
+pub distance : (p l : ℕ) (a b : Line) (x y : List ℕ) → Size p → Allowed p l
+    → length x ≡ tileLength p → length y ≡ tileLength p → Good p l x → Good p l y → EqualOutsideBoth p a b x y → x ≡ y
+distance p l a b x y s w = equal-tiles p l a b x y (allowed-slope p l s w) (inr (w .reach))

@@ -1,0 +1,19 @@
+-- The tile code: what a reader must believe (`Size`, `Tile`), and the paper's theorems, proved from that.
+pub mod Size
+pub mod Tabulate
+pub mod Tile
+pub mod Test
+pub mod Sums
+pub mod Place
+pub mod Settle
+pub mod Turn
+pub mod OneLine
+pub mod Chain
+pub mod Pair
+pub mod Columns
+pub mod Crossed
+pub mod Distance
+pub mod Settled
+pub mod Filling
+pub mod Writing
+pub mod Worked
