@@ -1,0 +1,44 @@
+-- WHAT A READER MUST BELIEVE: what the size and slope calls promise, in the words of document 01. Assumes nothing.
+use mathlib.Core.Bool.{Bool, true, false}
+use Prim.Native.Nat.{ℕ, _<_}
+use Rattle.code.specs.Size.{Size, Allowed}
+use Rattle.size.specs.Refusal.{numberOf}
+use Rattle.size.specs.declared.House.{House}
+use Rattle.size.specs.declared.House.the-variants.{Slope, Refused}
+use Rattle.size.specs.declared.Judgement.{Judgement}
+use Rattle.size.specs.declared.Judgement.the-variants as judgement
+
+-- a bool says whether A holds: it is true exactly if A does
+abbrev pub Says : Bool → Type 0 → Type 0
+Says true A = A
+Says false A = A → ⊥
+
+-- "The house slope for each size is the smallest slope allowed."
+pub record HouseSlope (p l : ℕ) : Type 0 where
+  pub allowed : Allowed p l
+  pub least : (j : ℕ) → j < l → Allowed p j → ⊥
+
+-- an answer in the document's terms: a slope, that all is well, or the number of a refusal
+pub data Said : Type 0 where
+  slope : ℕ → Said
+  well : Said
+  no : ℕ → Said
+
+abbrev pub houseSaid : House → Said
+houseSaid (Slope l) = slope l
+houseSaid (Refused r) = no (numberOf r)
+
+abbrev pub judgementSaid : Judgement → Said
+judgementSaid judgement.Taken = well
+judgementSaid (judgement.Refused r) = no (numberOf r)
+
+-- "A call gives it for a size, or refuses with 1."
+pub data HouseTold (p : ℕ) : Said → Type 0 where
+  given : {l : ℕ} → Size p → HouseSlope p l → HouseTold p (slope l)
+  no-size : (Size p → ⊥) → HouseTold p (no 1)
+
+-- 1 exactly when "p is no prime from 5 to 257"; then 2 exactly when "l is outside 2 to p-2, or its powers miss a remainder"
+pub data Judged (p l : ℕ) : Said → Type 0 where
+  taken : Size p → Allowed p l → Judged p l well
+  no-size : (Size p → ⊥) → Judged p l (no 1)
+  no-slope : Size p → (Allowed p l → ⊥) → Judged p l (no 2)

@@ -1,0 +1,113 @@
+-- Wrong programs, each broken by a theorem: no such program meets its contract. Assumes nothing.
+use mathlib.Core.Bool.{true, false}
+use Prim.Native.Nat.{ℕ}
+use native.Mathlib.Omega.{arith}
+use Rattle.code.specs.Size.{Size, Allowed}
+use Rattle.code.specs.Test.{upTo}
+use Rattle.size.specs.Answer.{Says, slope, well, no, HouseTold, given, Judged, no-slope}
+use Rattle.size.specs.Told.{given-size, refused-size, judged-well, judged-no}
+use Rattle.size.specs.SizeTest.{sizeOk, size-sound, size-complete}
+use Rattle.size.specs.SlopeTest.{clear, slopeOk, slope-sound, slope-complete}
+
+-- what the tests decide: which are sizes ..
+size-5 : Size 5
+unfolding sizeOk upTo
+size-5 = size-sound 5 tt
+
+size-7 : Size 7
+unfolding sizeOk upTo
+size-7 = size-sound 7 tt
+
+size-257 : Size 257
+unfolding sizeOk upTo
+size-257 = size-sound 257 tt
+
+no-size-4 : Size 4 → ⊥
+unfolding sizeOk upTo
+no-size-4 = size-complete 4
+
+no-size-9 : Size 9 → ⊥
+unfolding sizeOk upTo
+no-size-9 = size-complete 9
+
+no-size-258 : Size 258 → ⊥
+unfolding sizeOk upTo
+no-size-258 = size-complete 258
+
+-- .. and which slopes they allow
+at-5-2 : Allowed 5 2
+unfolding slopeOk clear
+at-5-2 = slope-sound 5 2 (size-5 .prime) tt
+
+at-7-3 : Allowed 7 3
+unfolding slopeOk clear
+at-7-3 = slope-sound 7 3 (size-7 .prime) tt
+
+at-7-5 : Allowed 7 5
+unfolding slopeOk clear
+at-7-5 = slope-sound 7 5 (size-7 .prime) tt
+
+no-at-7-2 : Allowed 7 2 → ⊥
+unfolding slopeOk clear
+no-at-7-2 = slope-complete 7 2 (size-7 .prime)
+
+no-at-7-6 : Allowed 7 6 → ⊥
+unfolding slopeOk clear
+no-at-7-6 = slope-complete 7 6 (size-7 .prime)
+
+-- a house slope that is always 2
+pub always-2 : HouseTold 7 (slope 2) → ⊥
+always-2 (given s h) = no-at-7-2 (h .allowed)
+
+-- a house slope call that refuses the last size
+pub last-size-refused : HouseTold 257 (no 1) → ⊥
+last-size-refused t = refused-size t size-257
+
+-- a house slope that is allowed and not the smallest
+pub not-smallest : HouseTold 7 (slope 5) → ⊥
+not-smallest (given s h) = h .least 3 (omega arith) at-7-3
+
+-- a house slope for 9, which is no prime
+pub slope-of-9 : (l : ℕ) → HouseTold 9 (slope l) → ⊥
+slope-of-9 l t = no-size-9 (given-size t)
+
+-- a house slope for 258, which is past the last size
+pub slope-of-258 : (l : ℕ) → HouseTold 258 (slope l) → ⊥
+slope-of-258 l t = no-size-258 (given-size t)
+
+-- a size call that says yes to 4
+pub takes-4 : Says true (Size 4) → ⊥
+takes-4 s = no-size-4 s
+
+-- a size call that says no to 257
+pub refuses-257 : Says false (Size 257) → ⊥
+refuses-257 f = f size-257
+
+-- a slope call that judges by the prime alone, and so says yes to 2 at 7
+pub takes-2-at-7 : Says true (Size 7 × Allowed 7 2) → ⊥
+takes-2-at-7 t = no-at-7-2 (t .1)
+
+-- a slope call that judges by the prime alone, and so says yes to 2 at 17
+pub takes-2-at-17 : Says true (Size 17 × Allowed 17 2) → ⊥
+unfolding slopeOk clear
+takes-2-at-17 t = slope-complete 17 2 (t .0 .prime) (t .1)
+
+-- a slope call that judges by the prime alone, and so says no to 2 at 5
+pub refuses-2-at-5 : Says false (Size 5 × Allowed 5 2) → ⊥
+refuses-2-at-5 f = f (size-5, at-5-2)
+
+-- a judgement that refuses the slope before the size
+pub slope-first : Judged 9 2 (no 2) → ⊥
+slope-first (no-slope s f) = no-size-9 s
+
+-- a judgement that takes p - 1 for a slope: its bound is one too high
+pub takes-6-at-7 : Judged 7 6 well → ⊥
+takes-6-at-7 t = no-at-7-6 (judged-well t .1)
+
+-- a judgement that refuses an allowed slope
+pub refuses-3-at-7 : (n : ℕ) → Judged 7 3 (no n) → ⊥
+refuses-3-at-7 n t = judged-no t (size-7, at-7-3)
+
+-- a judgement that refuses p - 2, the largest allowed at 7: its bound is one too low
+pub refuses-5-at-7 : (n : ℕ) → Judged 7 5 (no n) → ⊥
+refuses-5-at-7 n t = judged-no t (size-7, at-7-5)
