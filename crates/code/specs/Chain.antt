@@ -1,17 +1,17 @@
 -- Values handed on along a closed walk: n places, each passed once, the n-th step coming back to the first. Starting from 0 and adding
 -- a term at each step fixes a value for each place; it exists exactly if the terms add up to zero round the walk. Both chains of the
 -- paper, for two columns and for a row with a column, are such walks. Assumes nothing.
-use mathlib.Core.Path.{_≡_, refl, sym, ap, _∙_}
-use mathlib.Core.Logic.{_≢_, _⊎_, inl, inr, ⊎-elim}
+use mathlib.Core.Path.{_≡_, sym, ap, _∙_}
+use mathlib.Core.Logic.{_≢_, _⊎_, inl, inr}
 use mathlib.Core.Bool.{Bool, true, false}
-use Prim.Native.Nat.{ℕ, zero, suc, _+_, _-_, _*_, _%_, _<_, _≤_}
+use Prim.Native.Nat.{ℕ, zero, suc, _+_, _*_, _%_, _<_}
 use native.Mathlib.Nat.{mod-lt, eq-or-lt-of-le, le-of-suc-le-suc, le-step, lt-suc-self}
 use native.Mathlib.Numerals.{add-one}
 use native.Mathlib.Omega.{arith}
 use lib.Dec.{eqb}
 use borrow.Author.Tests.{eq-eqb, ne-eqb}
-use Rattle.xor.specs.Xor.{_⊕_, zero-l, byte, from₂, xors}
-use Rattle.xor.specs.Sum.{xorBelow, none, more, count, ext, zeros, bytes, Turns, reindex}
+use Rattle.xor.specs.Xor.{_⊕_}
+use Rattle.xor.specs.Sum.{xorBelow, none, more, count, zeros, bytes, reindex}
 use Rattle.residue.specs.Prime.{Prime, once}
 use Rattle.residue.specs.Pigeon.{onto}
 
@@ -70,18 +70,9 @@ rank-at (suc n) k walk o h = go (eq-or-lt-of-le (le-of-suc-le-suc h)) (rank-at n
     go (inl e) ih = rw (eq-eqb (walk n) (walk k) (ap walk (sym e))) (sym e)
     go (inr l) ih = rw (ne-eqb (walk n) (walk k) (λ e. o k n l (lt-suc-self n) (sym e))) (ih l)
 
-rank-none : (n m : ℕ) (walk : ℕ → ℕ) → ((k : ℕ) → k < n → walk k ≢ m) → rank walk n m ≡ 0
-unfolding rank
-rank-none zero m walk h = refl
-rank-none (suc n) m walk h = rw (ne-eqb (walk n) m (h n (lt-suc-self n))) (rank-none n m walk (λ k l. h k (le-step l)))
-
--- the value that the chain hands to the place m, and 0 at a place that the walk does not pass
+-- the value that the chain hands to the place m
 pub handed : (ℕ → ℕ) → (ℕ → ℕ) → ℕ → ℕ → ℕ
 handed walk term n m = xorBelow (rank walk n m) term
-
-pub handed-off : (n m : ℕ) (walk term : ℕ → ℕ) → ((k : ℕ) → k < n → walk k ≢ m) → handed walk term n m ≡ 0
-unfolding handed
-handed-off n m walk term h = count _ 0 term (rank-none n m walk h) ∙ none term
 
 pub handed-byte : (n m : ℕ) (walk term : ℕ → ℕ) → ((k : ℕ) → term k < 256) → handed walk term n m < 256
 unfolding handed

@@ -2,7 +2,7 @@
 -- circle the sums add up to total ⊕ total = 0, so the chain always closes. Assumes nothing.
 use mathlib.Core.Path.{_≡_, refl, sym, ap, ap₂, _∙_}
 use mathlib.Core.Logic.{_≢_}
-use Prim.Native.Nat.{ℕ, suc, _+_, _-_, _*_, _%_, _<_, _≤_}
+use Prim.Native.Nat.{ℕ, _+_, _-_, _*_, _%_, _<_, _≤_}
 use native.Mathlib.Nat.{mod-lt, mod-eq-of-lt, mod-add-mod, suc-mul, zero-mod}
 use native.Mathlib.Omega.{arith, by-contra}
 use Rattle.xor.specs.Xor.{_⊕_, self}
@@ -10,7 +10,7 @@ use Rattle.xor.specs.Sum.{xorBelow, ext, split}
 use Rattle.residue.specs.Remainder.{same, add-alike, before, before-lt, before-step, step-before, below, below-pos}
 use Rattle.residue.specs.Prime.{Prime, mul-cancel, meets, closes, once}
 use Rattle.code.specs.Tile.{line}
-use Rattle.code.specs.Chain.{Round, stepped}
+use Rattle.code.specs.Chain.{stepped}
 use Rattle.code.specs.Pair.{Hops, hop}
 use Rattle.code.specs.declared.Line.the-variants.{Column}
 

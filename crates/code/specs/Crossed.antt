@@ -1,23 +1,22 @@
 -- A hurt row s with a hurt column t: the paper's chain (24) to (29). Counted from the crossing, the hops go from the offset o to l o, so
 -- they pass every offset but 0 exactly if the powers of l reach all. They start at the added zero of the column, at the offset p - 1 - s.
 -- The terms add up to the two sums through the crossing, so the chain closes exactly if these agree. Assumes nothing.
-use mathlib.Core.Path.{_≡_, refl, sym, ap, ap₂, _∙_}
+use mathlib.Core.Path.{_≡_, sym, ap, ap₂, _∙_}
 use mathlib.Core.Logic.{_≢_, _⊎_, inl, inr, ⊎-elim}
 use mathlib.Core.Bool.{Bool, true, false}
-use Prim.Native.Nat.{ℕ, suc, _+_, _-_, _*_, _%_, _^_, _<_, _≤_}
+use Prim.Native.Nat.{ℕ, suc, _+_, _-_, _*_, _%_, _<_}
 use native.Mathlib.Nat.{mod-lt, mod-eq-of-lt, mod-add-mod, add-mod-mod, add-comm, eq-zero-or-pos, eq-or-lt-of-le}
-use native.Mathlib.Numerals.{add-one}
 use native.Mathlib.Omega.{arith}
 use lib.Dec.{ltb}
 use borrow.Author.Tests.{lt-ltb, le-ltb}
-use Rattle.xor.specs.Xor.{_⊕_, self, zero-r, from₂, xors}
+use Rattle.xor.specs.Xor.{_⊕_, self, from₂, xors}
 use Rattle.xor.specs.Sum.{xorBelow, keep, ext, split, more, count}
-use Rattle.residue.specs.Remainder.{same, add-alike, mul-mod-mod, before, before-lt, before-step, below, below-pos, cancel-left}
+use Rattle.residue.specs.Remainder.{same, mul-mod-mod, before, before-lt, before-step, below, below-pos, cancel-left}
 use Rattle.residue.specs.Prime.{Prime}
 use Rattle.residue.specs.Power.{ReachesAll, spun, spun-first, spun-next, spun-pos, spun-meets, spun-once, spun-closes}
 use Rattle.code.specs.Tile.{line}
-use Rattle.code.specs.Chain.{Round, reordered, stepped}
-use Rattle.code.specs.Pair.{Hops, hop, CrossingAgrees}
+use Rattle.code.specs.Chain.{reordered, stepped}
+use Rattle.code.specs.Pair.{Hops, hop}
 use Rattle.code.specs.declared.Line.the-variants.{Row}
 
 -- the k-th offset from the crossing, and the cell that stands so far from one in the crossing

@@ -1,12 +1,12 @@
 -- DISTANCE (Theorem 3.1 of the paper, one direction): two good tiles that agree outside two lines are equal, for any two lines. Two
 -- columns or two rows ask nothing of the slope but that it is from 2 to p-2; a row with a column asks that its powers reach all.
 -- Assumes nothing.
-use mathlib.Core.Path.{_≡_, refl, sym, ap, ap₂, _∙_}
-use mathlib.Core.Logic.{_≢_, _⊎_, inl, inr, ⊎-elim}
+use mathlib.Core.Path.{_≡_, refl, ap, _∙_}
+use mathlib.Core.Logic.{_⊎_, inl, inr, ⊎-elim}
 use mathlib.Core.Bool.{Bool, true, false}
 use mathlib.Core.List.{List}
-use Prim.Native.Nat.{ℕ, suc, _+_, _-_, _*_, _%_, _<_, _≤_}
-use native.Mathlib.Nat.{mod-lt, eq-or-lt-of-le}
+use Prim.Native.Nat.{ℕ, _-_, _*_, _%_, _<_}
+use native.Mathlib.Nat.{mod-lt}
 use native.Mathlib.Decide.{ℕ-discrete}
 use native.Mathlib.Omega.{arith}
 use lib.Dec.{ltb}
@@ -18,8 +18,8 @@ use Rattle.residue.specs.Remainder.{before, before-step}
 use Rattle.residue.specs.Power.{ReachesAll}
 use Rattle.code.specs.Size.{Size, Allowed, Slope, allowed-slope, slope-pos, slope-inverse}
 use Rattle.code.specs.Tile.{Cells, tileLength, cell, OneSum, Good, On, EqualOutsideBoth}
-use Rattle.code.specs.Sums.{Padded, plus, padded-plus, one-sum-plus, Same}
-use Rattle.code.specs.Place.{cell-padded, cells-determine, same-within}
+use Rattle.code.specs.Sums.{Padded, plus, padded-plus, one-sum-plus}
+use Rattle.code.specs.Place.{everywhere, cell-padded, cells-determine}
 use Rattle.code.specs.Turn.{turned, good-turned, padded-turned}
 use Rattle.code.specs.OneLine.{number}
 use Rattle.code.specs.Pair.{ZeroOffBoth, line-zero, pair-zero}
@@ -79,12 +79,8 @@ lines-blank p l (Row s) (Column t) D S (inr all) ha hb good padded off =
 -- a padded tile is zero outside two lines if it is so within the tile
 pub within-off : (p : ℕ) (a b : Line) (D : Cells) → Padded p D
     → ((i j : ℕ) → i < p - 1 → j < p - 1 → (On a i j → ⊥) → (On b i j → ⊥) → D i j ≡ 0) → ZeroOffBoth p a b D
-within-off p a b D padded h i j hi hj d e = go (eq-or-lt-of-le hi) (eq-or-lt-of-le hj)
-  where
-    go : (suc i ≡ p) ⊎ (suc i < p) → (suc j ≡ p) ⊎ (suc j < p) → D i j ≡ 0
-    go (inl q) r = let w : i ≡ p - 1 = omega arith in rw w (padded .row j hj)
-    go (inr l) (inl q) = let w : j ≡ p - 1 = omega arith in rw w (padded .column i hi)
-    go (inr l) (inr m) = h i j (omega arith) (omega arith) d e
+within-off p a b D padded =
+    everywhere p (λ i j. (On a i j → ⊥) → (On b i j → ⊥) → D i j ≡ 0) (λ j h d e. padded .row j h) (λ i h d e. padded .column i h)
 
 -- a line that the tile does not have holds no cell of it: line 0 stands for it
 abbrev kept : ℕ → Line → Line

@@ -1,22 +1,21 @@
 -- FILLING, of lists of bytes: which good tiles agree with a given tile outside one or two lines. Two columns or two rows always have
 -- exactly one filling; a row with a column, and one line alone, have at most one, and have it exactly if the sums agree. Assumes nothing.
 use mathlib.Core.Path.{_≡_, refl, sym, ap, _∙_}
-use mathlib.Core.Logic.{_≢_, _⊎_, inl, inr, _↔_}
+use mathlib.Core.Logic.{_≢_, _⊎_, _↔_}
 use mathlib.Core.List.{List}
-use Prim.Native.Nat.{ℕ, _+_, _-_, _*_, _%_, _<_}
+use Prim.Native.Nat.{ℕ, _-_, _<_}
 use native.Mathlib.Omega.{arith}
-use lib.ListN.{length, getD}
-use Rattle.xor.specs.Xor.{_⊕_, again, zero-r, self, byte, xors}
+use Rattle.xor.specs.Xor.{_⊕_, again, zero-r, self, byte}
 use Rattle.residue.specs.Power.{ReachesAll}
 use Rattle.code.specs.Size.{Slope, slope-inverse}
-use Rattle.code.specs.Tile.{Cells, tileLength, cell, line, sum, OneSum, Good, On, EqualOutsideBoth, Fills, Bytes}
-use Rattle.code.specs.Sums.{Padded, Same, plus, padded-plus, one-sum-ext, sum-byte, totals}
-use Rattle.code.specs.Place.{cell-in, cell-byte, cell-padded, tileOf, tile-length, tile-cells, tile-bytes}
+use Rattle.code.specs.Tile.{Cells, cell, line, sum, Fills, Bytes}
+use Rattle.code.specs.Sums.{Same, plus, padded-plus, one-sum-ext, sum-byte, totals}
+use Rattle.code.specs.Place.{cell-byte, cell-padded, tileOf, tile-length, tile-cells, tile-bytes}
 use Rattle.code.specs.Settle.{Settles, settles-good, good-settles}
 use Rattle.code.specs.OneLine.{number, nth, ZeroOff, Agree, shifted, one-line-agrees, one-line-change}
 use Rattle.code.specs.Pair.{ZeroOffBoth, pair-crossing}
 use Rattle.code.specs.Distance.{Parallel, equal-tiles, within-off}
-use Rattle.code.specs.Settled.{Settled, line-settled, columns-settled, rows-settled, crossed-settled}
+use Rattle.code.specs.Existence.{Settled, line-settled, columns-settled, rows-settled, crossed-settled}
 use Rattle.code.specs.declared.Line.{Line}
 use Rattle.code.specs.declared.Line.the-variants.{Row, Column}
 

@@ -5,6 +5,7 @@ pub mod Tile
 pub mod Test
 pub mod Sums
 pub mod Place
+pub mod Good
 pub mod Settle
 pub mod Turn
 pub mod OneLine
@@ -13,7 +14,7 @@ pub mod Pair
 pub mod Columns
 pub mod Crossed
 pub mod Distance
-pub mod Settled
+pub mod Existence
 pub mod Filling
 pub mod Writing
 pub mod Worked

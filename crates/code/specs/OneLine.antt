@@ -2,15 +2,14 @@
 -- sum with the common byte taken off, which is the sum where the line meets an added zero. Shown for columns, carried to rows by
 -- turning. Assumes nothing.
 use mathlib.Core.Path.{_≡_, refl, sym, ap, ap₂, _∙_}
-use mathlib.Core.Logic.{_≢_}
-use Prim.Native.Nat.{ℕ, _+_, _-_, _*_, _%_, _<_}
+use Prim.Native.Nat.{ℕ, _-_, _*_, _%_, _<_}
 use native.Mathlib.Nat.{mod-lt}
 use native.Mathlib.Omega.{arith}
 use lib.Dec.{eqb}
-use borrow.Author.Tests.{eq-eqb, ne-eqb, le-ltb}
-use Rattle.xor.specs.Xor.{_⊕_, xors, self, zero-r, byte, from, from₂, again}
+use borrow.Author.Tests.{eq-eqb, ne-eqb}
+use Rattle.xor.specs.Xor.{_⊕_, xors, from₂, again}
 use Rattle.xor.specs.Sum.{keep, keep-byte, keep-zero}
-use Rattle.residue.specs.Remainder.{same, before, before-lt, before-step}
+use Rattle.residue.specs.Remainder.{before, before-lt, before-step}
 use Rattle.code.specs.Tile.{Cells, line, sum, On}
 use Rattle.code.specs.Sums.{Padded, sum-column}
 use Rattle.code.specs.Settle.{Settles, settles-ext}

@@ -9,16 +9,14 @@
 -- and the second line then settles what is left as one hurt line does (`OneLine`). Assumes nothing.
 use mathlib.Core.Path.{_≡_, refl, sym, ap, ap₂, _∙_}
 use mathlib.Core.Logic.{_≢_, _⊎_, inl, inr, ⊎-elim}
-use mathlib.Core.Bool.{Bool, true, false, not}
+use mathlib.Core.Bool.{Bool, false, not}
 use Prim.Native.Nat.{ℕ, _+_, _-_, _*_, _%_, _<_}
-use native.Mathlib.Nat.{mod-lt}
 use native.Mathlib.Decide.{ℕ-discrete}
-use native.Mathlib.Omega.{arith}
 use lib.Dec.{eqb}
 use borrow.Author.Tests.{eqb-false, eq-eqb, ne-eqb}
-use Rattle.xor.specs.Xor.{_⊕_, xors, zero-l, zero-r, self, byte, from, from₂}
+use Rattle.xor.specs.Xor.{_⊕_, xors, zero-l, self, byte, from₂}
 use Rattle.xor.specs.Sum.{keep, keep-zero}
-use Rattle.code.specs.Tile.{Cells, line, sum, OneSum, On}
+use Rattle.code.specs.Tile.{Cells, line, OneSum, On}
 use Rattle.code.specs.Sums.{Padded, plus, padded-plus, sum-column, sum-byte}
 use Rattle.code.specs.Settle.{Settles, after, settles-ext, settles-plus, plus-settles, good-settles-zero}
 use Rattle.code.specs.OneLine.{number, rowAt, columnAt, nth, through, along, ZeroOff, Agree, shifted, along-off, along-nth, along-padded, along-byte, one-line-agrees, one-line-change, one-line-settles}

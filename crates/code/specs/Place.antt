@@ -1,9 +1,9 @@
 -- A list of bytes and its cells determine each other, and so do a text and the cells of its columns. Here alone a law knows how a tile
 -- or a text is laid out in memory. Assumes nothing.
-use mathlib.Core.Path.{_≡_, sym, ap, ap₂, _∙_}
+use mathlib.Core.Path.{_≡_, sym, ap₂, _∙_}
 use mathlib.Core.Logic.{_⊎_, inl, inr}
 use mathlib.Core.List.{List}
-use Prim.Native.Nat.{ℕ, suc, _+_, _-_, _*_, _/_, _%_, _<_, _≤_}
+use Prim.Native.Nat.{ℕ, suc, _+_, _-_, _*_, _/_, _%_, _<_}
 use native.Mathlib.Nat.{mod-lt, div-add-mod', div-lt-iff-lt-mul, mul-le-mul-right, eq-or-lt-of-le}
 use native.Mathlib.Omega.{arith}
 use lib.Arith.{digits-div, digits-mod}
@@ -11,7 +11,7 @@ use lib.Dec.{ltb}
 use lib.ListN.{length, getD}
 use lib.Seq.{ext-getD}
 use borrow.Author.Tests.{lt-ltb, le-ltb}
-use Rattle.xor.specs.Sum.{keep, keep-zero, keep-byte}
+use Rattle.xor.specs.Sum.{keep-zero, keep-byte}
 use Rattle.code.specs.Tabulate.{tabulate, tabulate-length, tabulate-at, tabulate-bytes}
 use Rattle.code.specs.Tile.{Cells, tileLength, place, cell, textLength, textOf, Bytes}
 use Rattle.code.specs.Sums.{Padded, Same}
@@ -53,14 +53,20 @@ pub cell-byte : (p : ℕ) (tile : List ℕ) → Bytes tile → (i j : ℕ) → c
 unfolding cell
 cell-byte p tile h i j = keep-byte (ltb i (p - 1)) _ (keep-byte (ltb j (p - 1)) _ (h (place p i j)))
 
+-- what holds in the added row, in the added column and within the tile holds everywhere
+pub everywhere : (p : ℕ) (P : ℕ → ℕ → Type 0) → ((j : ℕ) → j < p → P (p - 1) j) → ((i : ℕ) → i < p → P i (p - 1))
+    → ((i j : ℕ) → i < p - 1 → j < p - 1 → P i j) → (i j : ℕ) → i < p → j < p → P i j
+everywhere p P row column within i j hi hj = go (eq-or-lt-of-le hi) (eq-or-lt-of-le hj)
+  where
+    go : (suc i ≡ p) ⊎ (suc i < p) → (suc j ≡ p) ⊎ (suc j < p) → P i j
+    go (inl e) d = let q : i ≡ p - 1 = omega arith in rw q (row j hj)
+    go (inr l) (inl e) = let q : j ≡ p - 1 = omega arith in rw q (column i hi)
+    go (inr l) (inr m) = within i j (omega arith) (omega arith)
+
 -- two padded tiles are the same if they are within the tile
 pub same-within : (p : ℕ) (T U : Cells) → Padded p T → Padded p U → ((i j : ℕ) → i < p - 1 → j < p - 1 → T i j ≡ U i j) → Same p T U
-same-within p T U a b h i j hi hj = go (eq-or-lt-of-le hi) (eq-or-lt-of-le hj)
-  where
-    go : (suc i ≡ p) ⊎ (suc i < p) → (suc j ≡ p) ⊎ (suc j < p) → T i j ≡ U i j
-    go (inl e) d = let q : i ≡ p - 1 = omega arith in rw q (a .row j hj ∙ sym (b .row j hj))
-    go (inr l) (inl e) = let q : j ≡ p - 1 = omega arith in rw q (a .column i hi ∙ sym (b .column i hi))
-    go (inr l) (inr m) = h i j (omega arith) (omega arith)
+same-within p T U a b =
+    everywhere p (λ i j. T i j ≡ U i j) (λ j h. a .row j h ∙ sym (b .row j h)) (λ i h. a .column i h ∙ sym (b .column i h))
 
 -- the cells of a tile determine its list
 pub cells-determine : (p : ℕ) (x y : List ℕ) → 1 < p → length x ≡ tileLength p → length y ≡ tileLength p

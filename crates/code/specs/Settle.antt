@@ -2,7 +2,7 @@
 -- byte. So every question about a hurt tile is asked of the change that makes it good, and of the tile's sums alone. Assumes nothing.
 use mathlib.Core.Path.{_≡_, sym, ap, _∙_}
 use Prim.Native.Nat.{ℕ, _<_}
-use Rattle.xor.specs.Xor.{_⊕_, xors, zero-l, from, from₂}
+use Rattle.xor.specs.Xor.{_⊕_, xors, zero-l, from₂}
 use Rattle.code.specs.Tile.{Cells, sum, OneSum}
 use Rattle.code.specs.Sums.{Same, plus, sum-plus, sum-ext}
 

@@ -3,7 +3,7 @@
 use mathlib.Core.Path.{_≡_, refl, sym, ap, ap₂, _∙_}
 use mathlib.Core.Logic.{_≢_, _⊎_, inl, inr, ⊎-elim}
 use mathlib.Core.Bool.{Bool, true, false}
-use Prim.Native.Nat.{ℕ, _+_, _-_, _*_, _%_, _<_}
+use Prim.Native.Nat.{ℕ, _+_, _-_, _*_, _<_}
 use native.Mathlib.Nat.{mod-lt}
 use native.Mathlib.Decide.{ℕ-discrete}
 use native.Mathlib.Omega.{arith}
@@ -27,10 +27,6 @@ Same p T U = (i j : ℕ) → i < p → j < p → T i j ≡ U i j
 -- the XOR of two tiles, cell by cell
 abbrev pub plus : Cells → Cells → Cells
 plus T U i j = T i j ⊕ U i j
-
--- a tile without a cell but zeros
-abbrev pub blank : Cells
-blank i j = 0
 
 -- ---- sums
 
@@ -63,7 +59,7 @@ totals p s s′ T = total p s T ∙ sym (total p s′ T)
 pub same-byte : (p s s′ b b′ : ℕ) (T : Cells) → Prime p → 2 < p → ((t : ℕ) → t < p → sum p s T t ≡ b) → ((t : ℕ) → t < p → sum p s′ T t ≡ b′) → b ≡ b′
 same-byte p s s′ b b′ T P two h h′ = let o = prime-odd p P two in sym (odd p b _ o h) ∙ totals p s s′ T ∙ odd p b′ _ o h′
 
--- a line has one cell in each column: in column j the one in row t - s j
+-- a line has one cell in each column: in column j the one in row t - s j. So the sums are those of the paper's (2) and (3)
 pub sum-by-column : (p s t : ℕ) (T : Cells) → t < p → sum p s T t ≡ xorBelow p (λ j. T (before p (s * j) t) j)
 unfolding sum
 sum-by-column p s t T h =

@@ -3,13 +3,13 @@
 use mathlib.Core.Path.{_≡_, refl, sym, ap, _∙_}
 use mathlib.Core.Logic.{_↔_}
 use mathlib.Core.Bool.{Bool, true, false}
-use Prim.Native.Nat.{ℕ, _+_, _-_, _*_, _%_, _<_}
+use Prim.Native.Nat.{ℕ, _+_, _*_, _%_, _<_}
 use native.Mathlib.Nat.{mod-lt, mod-eq-of-lt, mul-comm}
 use native.Mathlib.Omega.{arith}
 use lib.Dec.{eqb}
 use borrow.Author.Tests.{eqb-true, eqb-false, eq-eqb, ne-eqb}
 use Rattle.xor.specs.Xor.{_⊕_}
-use Rattle.xor.specs.Sum.{xorBelow, keep, ext, swap}
+use Rattle.xor.specs.Sum.{keep, ext, swap}
 use Rattle.residue.specs.Remainder.{same, mul-mod-mod, add-alike, undo}
 use Rattle.code.specs.Tile.{Cells, line, sum, OneSum}
 use Rattle.code.specs.Sums.{Padded}

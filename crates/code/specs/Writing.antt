@@ -1,6 +1,6 @@
 -- WRITING: for every text exactly one good tile has it. It is the filling of the two check columns. Assumes nothing.
-use mathlib.Core.Path.{_≡_, sym, ap, ap₂, _∙_}
-use mathlib.Core.Logic.{_≢_, inl}
+use mathlib.Core.Path.{_≡_, sym, ap, _∙_}
+use mathlib.Core.Logic.{inl}
 use mathlib.Core.List.{List}
 use Prim.Native.Nat.{ℕ, _+_, _-_, _*_, _<_}
 use native.Mathlib.Omega.{arith}
@@ -9,7 +9,7 @@ use lib.ListN.{length, getD}
 use borrow.Author.Tests.{lt-ltb, le-ltb}
 use Rattle.xor.specs.Sum.{keep, keep-zero, keep-byte}
 use Rattle.code.specs.Size.{Slope}
-use Rattle.code.specs.Tile.{Cells, cell, textLength, textOf, Writes, Fills, Bytes}
+use Rattle.code.specs.Tile.{Cells, textLength, Writes, Bytes}
 use Rattle.code.specs.Sums.{Padded}
 use Rattle.code.specs.Place.{tileOf, tile-cells, tile-bytes, text-at, text-is}
 use Rattle.code.specs.Distance.{equal-tiles}

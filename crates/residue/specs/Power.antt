@@ -7,7 +7,7 @@ use native.Mathlib.Nat.{pow-suc, pow-succ', pow-zero, one-mul, zero-mul, mul-one
 use native.Mathlib.Numerals.{add-one}
 use native.Mathlib.Omega.{arith, by-contra}
 use lib.Pow.{pow-add}
-use Rattle.residue.specs.Remainder.{same, alike, mod-mul-mod, mul-mod-mod, mul-alike, add-alike, below-pos, inverse-cancel, undo}
+use Rattle.residue.specs.Remainder.{same, alike, mod-mul-mod, mul-mod-mod, add-alike, below-pos, undo}
 use Rattle.residue.specs.Prime.{Prime, mul-cancel, euclid, inverse}
 use Rattle.residue.specs.Pigeon.{onto, onto-once}
 

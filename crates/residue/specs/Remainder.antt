@@ -1,7 +1,7 @@
 -- Remainders modulo any number p. Numbers are called alike where they leave the same remainder. Assumes nothing.
 use mathlib.Core.Path.{_≡_, ap, sym, _∙_}
 use Prim.Native.Nat.{ℕ, _+_, _*_, _-_, _/_, _%_, _<_}
-use native.Mathlib.Nat.{add-comm, add-mul-mod-self-right, div-add-mod', mod-add-mod, mod-lt, mod-eq-of-lt, add-mod-right}
+use native.Mathlib.Nat.{add-comm, add-mul-mod-self-right, div-add-mod', mod-add-mod, mod-lt, mod-eq-of-lt}
 use native.Mathlib.Omega.{arith}
 
 module _ (p : ℕ) where

@@ -5,5 +5,5 @@ pub mod Told
 pub mod SizeTest
 pub mod SlopeTest
 pub mod Table
-pub mod Settled
+pub mod Once
 pub mod Shams

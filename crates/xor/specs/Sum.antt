@@ -1,15 +1,14 @@
 -- The exclusive or of f 0, .., f (n - 1), and its laws. Assumes nothing.
-use mathlib.Core.Path.{_≡_, refl, sym, ap, ap₂, _∙_, subst}
+use mathlib.Core.Path.{_≡_, refl, sym, ap, ap₂, _∙_}
 use mathlib.Core.Logic.{_≢_, _⊎_, inl, inr}
 use mathlib.Core.Bool.{Bool, true, false}
 use Prim.Native.Nat.{ℕ, zero, suc, _+_, _%_, _<_}
-use native.Mathlib.Nat.{eq-or-lt-of-le, le-of-suc-le-suc, le-step, lt-suc-self, zero-lt-suc, lt-irrefl}
+use native.Mathlib.Nat.{eq-or-lt-of-le, le-of-suc-le-suc, le-step, lt-suc-self, zero-lt-suc}
 use native.Mathlib.Numerals.{add-one}
 use native.Mathlib.Omega.{arith}
-use lib.Bits.{bitXor}
 use lib.Dec.{eqb}
-use borrow.Author.Tests.{eqb-true, eqb-false, eq-eqb, ne-eqb}
-use Rattle.xor.specs.Xor.{_⊕_, ⊕-is, xors, four, zero-l, assoc, self, zero-r, again, byte}
+use borrow.Author.Tests.{eqb-true, eq-eqb}
+use Rattle.xor.specs.Xor.{_⊕_, xors, four, zero-l, zero-r, byte}
 
 unfoldable pub xorBelow : ℕ → (ℕ → ℕ) → ℕ
 xorBelow zero f = 0
@@ -23,10 +22,6 @@ none f = refl
 pub more : (n : ℕ) (f : ℕ → ℕ) → xorBelow (n + 1) f ≡ xorBelow n f ⊕ f n
 unfolding xorBelow
 more n f = ap (λ (m : ℕ). xorBelow m f) (add-one n)
-
--- what a loop does that adds up f with the code's `^`
-pub grown : (n : ℕ) (f : ℕ → ℕ) (x : ℕ) → x ≡ xorBelow n f → bitXor x (f n) ≡ xorBelow (n + 1) f
-grown n f x e = ⊕-is x (f n) ∙ ap (λ (y : ℕ). y ⊕ f n) e ∙ sym (more n f)
 
 pub count : (n m : ℕ) (f : ℕ → ℕ) → n ≡ m → xorBelow n f ≡ xorBelow m f
 count n m f e = ap (λ (k : ℕ). xorBelow k f) e
@@ -67,10 +62,6 @@ pub swap : (n m : ℕ) (f : ℕ → ℕ → ℕ) → xorBelow n (λ i. xorBelow 
 unfolding xorBelow
 swap zero m f = sym (zeros m (λ j. 0) (λ j l. refl))
 swap (suc n) m f = ap (λ (x : ℕ). x ⊕ xorBelow m (f n)) (swap n m f) ∙ sym (split m (λ j. xorBelow n (λ i. f i j)) (f n))
-
-pub keep-sum : (t : Bool) (n : ℕ) (f : ℕ → ℕ) → keep t (xorBelow n f) ≡ xorBelow n (λ i. keep t (f i))
-keep-sum true n f = refl
-keep-sum false n f = sym (zeros n (λ i. 0) (λ i l. refl))
 
 -- all terms but one are 0
 pub single : (n k : ℕ) (f : ℕ → ℕ) → k < n → ((i : ℕ) → i < n → i ≢ k → f i ≡ 0) → xorBelow n f ≡ f k
