@@ -63,13 +63,13 @@ assert [verdict(p, 2) for p in (5, 7, 17)] == ["taken", "refused 2", "refused 2"
 
 for p in range(LAST + 1):
     print("house", p, HOUSE.get(p, "refused 1"))
+    if p in SIZES:
+        print("slopes", p, len(SLOPES[p]))
+print("sizes taken:", len(SIZES))
 for p in (4, 9, 258, 5, 257):
     print("size", p, verdict(p, HOUSE.get(p, 2)))
-print("sizes taken:", len(SIZES))
 for p in (7, 5, 17):
     for l in range(p + 1):
         print("slope", p, l, verdict(p, l))
 for p, l in ((9, 0), (0, 0), (258, 1), (7, 0), (LARGEST, 3), (7, LARGEST), (LARGEST, LARGEST)):
     print("judge", p, l, verdict(p, l))
-for p in SIZES:
-    print("slopes", p, len(SLOPES[p]))

@@ -1,10 +1,13 @@
 -- Wrong programs, each broken by a theorem: no such program meets its contract. Assumes nothing.
+use mathlib.Core.Path.{_≡_}
 use mathlib.Core.Bool.{true, false}
 use Prim.Native.Nat.{ℕ}
 use native.Mathlib.Omega.{arith}
 use Rattle.code.specs.Size.{Size, Allowed}
 use Rattle.code.specs.Test.{upTo}
 use Rattle.size.specs.Answer.{Says, slope, well, no, HouseTold, given, Judged, no-slope}
+use Rattle.size.specs.Refusal.{numberOf}
+use Rattle.size.specs.declared.Refusal.the-variants.{BadMark, CutShort}
 use Rattle.size.specs.Told.{given-size, refused-size, judged-well, judged-no}
 use Rattle.size.specs.SizeTest.{sizeOk, size-sound, size-complete}
 use Rattle.size.specs.SlopeTest.{clear, slopeOk, slope-sound, slope-complete}
@@ -54,6 +57,13 @@ no-at-7-2 = slope-complete 7 2 (size-7 .prime)
 no-at-7-6 : Allowed 7 6 → ⊥
 unfolding slopeOk clear
 no-at-7-6 = slope-complete 7 6 (size-7 .prime)
+
+-- a call that gives every refusal the number 1; one that gives a bad mark and a short record the same number
+pub always-1 : numberOf CutShort ≡ 1 → ⊥
+always-1 e = omega arith
+
+pub same-number : numberOf BadMark ≡ numberOf CutShort → ⊥
+same-number e = omega arith
 
 -- a house slope that is always 2
 pub always-2 : HouseTold 7 (slope 2) → ⊥

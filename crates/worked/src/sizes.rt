@@ -8,21 +8,31 @@ use size::Refusal;
 const LAST: usize = 300;
 
 pub fn print_cases() {
-    print_house_slopes();
+    print_every_size();
     print_edges_of_sizes();
-    print_size_count();
     print_slopes(7);
     print_slopes(5);
     print_slopes(17);
     print_order_of_refusals();
-    print_slope_counts();
 }
 
-// The house slope of every number, or its refusal.
-fn print_house_slopes() {
+// The house slope of every number, or its refusal; of each size how many slopes it allows; and how many sizes there are.
+fn print_every_size() {
+    let mut taken: usize = 0;
     for p in 0..=LAST {
         print_house_slope(p);
+        if size::takes_size(p) {
+            print_slope_count(p);
+            taken += 1;
+        }
     }
+    print_taken(taken);
+}
+
+fn print_taken(count: usize) {
+    print::words(b"sizes taken:");
+    print::number(count);
+    print::end_line();
 }
 
 fn print_house_slope(p: usize) {
@@ -58,23 +68,6 @@ fn slope_to_try(p: usize) -> usize {
     }
 }
 
-fn print_size_count() {
-    print::words(b"sizes taken:");
-    print::number(size_count());
-    print::end_line();
-}
-
-// How many numbers are sizes.
-fn size_count() -> usize {
-    let mut count: usize = 0;
-    for p in 0..=LAST {
-        if size::takes_size(p) {
-            count += 1;
-        }
-    }
-    count
-}
-
 // The slopes from 0 to p, so also the two numbers past each end of 2 to p - 2.
 fn print_slopes(p: usize) {
     for l in 0..=p {
@@ -95,15 +88,6 @@ fn print_order_of_refusals() {
     print_judged(b"judge", usize::MAX, 3);
     print_judged(b"judge", 7, usize::MAX);
     print_judged(b"judge", usize::MAX, usize::MAX);
-}
-
-// How many slopes each size allows.
-fn print_slope_counts() {
-    for p in 0..=LAST {
-        if size::takes_size(p) {
-            print_slope_count(p);
-        }
-    }
 }
 
 fn print_slope_count(p: usize) {
