@@ -17,16 +17,16 @@ use Rattle.size.specs.declared.Entry.{Entry}
 
 -- the k-th entry of a table; past the end, one of zeros
 abbrev pub entryAt : List Entry → ℕ → Entry
-entryAt t k = getD t k (record { size = 0; slope = 0 })
+entryAt t k = getD t k (0, 0)
 
 -- an entry that is right: its size is a size, and its slope the house slope of that size
 abbrev pub HouseEntry : Entry → Type 0
-HouseEntry e = Size (e .size) × HouseSlope (e .size) (e .slope)
+HouseEntry e = Size (e .0) × HouseSlope (e .0) (e .1)
 
 -- the rule: each entry is right, and what no entry has is no size
 pub record HouseTable (t : List Entry) : Type 0 where
   pub each : (k : ℕ) → k < length t → HouseEntry (entryAt t k)
-  pub every : (p : ℕ) → ((k : ℕ) → k < length t → entryAt t k .size ≡ p → ⊥) → Size p → ⊥
+  pub every : (p : ℕ) → ((k : ℕ) → k < length t → entryAt t k .0 ≡ p → ⊥) → Size p → ⊥
 
 -- no slope below l passes at p
 abbrev none : ℕ → ℕ → Bool
@@ -38,7 +38,7 @@ first p l = slopeOk p l && none p l
 
 -- the test of an entry: its size passes, and its slope is the first that passes at it
 abbrev entryOk : Entry → Bool
-entryOk e = sizeOk (e .size) && first (e .size) (e .slope)
+entryOk e = sizeOk (e .0) && first (e .0) (e .1)
 
 abbrev entriesOk : List Entry → Bool
 entriesOk [] = true
@@ -47,7 +47,7 @@ entriesOk (e ∷ t) = entryOk e && entriesOk t
 -- no entry has the size p
 abbrev lacks : List Entry → ℕ → Bool
 lacks [] p = true
-lacks (e ∷ t) p = not (eqb (e .size) p) && lacks t p
+lacks (e ∷ t) p = not (eqb (e .0) p) && lacks t p
 
 -- p is no size, or has an entry
 abbrev listed : List Entry → ℕ → Bool
@@ -66,10 +66,10 @@ house-sound p l s t = record {
 
 -- an entry that passes is right
 entry-sound : (e : Entry) → T (entryOk e) → HouseEntry e
-entry-sound e o = (s, house-sound (e .size) (e .slope) s (and-right (sizeOk (e .size)) (first (e .size) (e .slope)) o))
+entry-sound e o = (s, house-sound (e .0) (e .1) s (and-right (sizeOk (e .0)) (first (e .0) (e .1)) o))
   where
-    s : Size (e .size)
-    s = size-sound (e .size) (and-left (sizeOk (e .size)) (first (e .size) (e .slope)) o)
+    s : Size (e .0)
+    s = size-sound (e .0) (and-left (sizeOk (e .0)) (first (e .0) (e .1)) o)
 
 each-sound : (t : List Entry) → T (entriesOk t) → (k : ℕ) → k < length t → HouseEntry (entryAt t k)
 each-sound [] o k h = absurd (not-suc-le-zero h)
@@ -77,10 +77,10 @@ each-sound (e ∷ t) o zero h = entry-sound e (and-left (entryOk e) (entriesOk t
 each-sound (e ∷ t) o (suc k) h = each-sound t (and-right (entryOk e) (entriesOk t) o) k (le-of-suc-le-suc h)
 
 -- where no entry has the size p, the test says so
-lacks-complete : (t : List Entry) (p : ℕ) → ((k : ℕ) → k < length t → entryAt t k .size ≡ p → ⊥) → T (lacks t p)
+lacks-complete : (t : List Entry) (p : ℕ) → ((k : ℕ) → k < length t → entryAt t k .0 ≡ p → ⊥) → T (lacks t p)
 lacks-complete [] p f = tt
 lacks-complete (e ∷ t) p f =
-    and-both (not (eqb (e .size) p)) (lacks t p) (not-T (eqb (e .size) p) (λ q. f 0 (zero-lt-suc _) (eqb→eq (e .size) p q)))
+    and-both (not (eqb (e .0) p)) (lacks t p) (not-T (eqb (e .0) p) (λ q. f 0 (zero-lt-suc _) (eqb→eq (e .0) p q)))
     (lacks-complete t p (λ k h. f (suc k) (omega arith)))
 
 -- a table that passes keeps the rule
@@ -88,7 +88,7 @@ pub table-sound : (t : List Entry) → T (tableOk t) → HouseTable t
 unfolding tableOk
 table-sound t o = record { each = each-sound t (and-left (entriesOk t) (upTo (listed t) 258) o); every = go }
   where
-    go : (p : ℕ) → ((k : ℕ) → k < length t → entryAt t k .size ≡ p → ⊥) → Size p → ⊥
+    go : (p : ℕ) → ((k : ℕ) → k < length t → entryAt t k .0 ≡ p → ⊥) → Size p → ⊥
     go p f s =
         T-not (lacks t p)
         (imp-on (sizeOk p) (not (lacks t p)) (up-at (listed t) 258 (and-right (entriesOk t) (upTo (listed t) 258) o) p (omega (arith, s .high))) (size-complete p s))

@@ -31,156 +31,64 @@ pub fn number(refusal: Refusal) -> usize
     }
 }
 
-struct Entry {
-    size: usize,
-    slope: usize,
-}
+// A size and its house slope.
+struct Entry(usize, usize);
 
 // Every size, with its house slope: the smallest slope that it allows.
 const HOUSE_SLOPES: [Entry; 53] = [
-    Entry { size: 5, slope: 2 },
-    Entry { size: 7, slope: 3 },
-    Entry { size: 11, slope: 2 },
-    Entry { size: 13, slope: 2 },
-    Entry { size: 17, slope: 3 },
-    Entry { size: 19, slope: 2 },
-    Entry { size: 23, slope: 5 },
-    Entry { size: 29, slope: 2 },
-    Entry { size: 31, slope: 3 },
-    Entry { size: 37, slope: 2 },
-    Entry { size: 41, slope: 6 },
-    Entry { size: 43, slope: 3 },
-    Entry { size: 47, slope: 5 },
-    Entry { size: 53, slope: 2 },
-    Entry { size: 59, slope: 2 },
-    Entry { size: 61, slope: 2 },
-    Entry { size: 67, slope: 2 },
-    Entry { size: 71, slope: 7 },
-    Entry { size: 73, slope: 5 },
-    Entry { size: 79, slope: 3 },
-    Entry { size: 83, slope: 2 },
-    Entry { size: 89, slope: 3 },
-    Entry { size: 97, slope: 5 },
-    Entry {
-        size: 101,
-        slope: 2,
-    },
-    Entry {
-        size: 103,
-        slope: 5,
-    },
-    Entry {
-        size: 107,
-        slope: 2,
-    },
-    Entry {
-        size: 109,
-        slope: 6,
-    },
-    Entry {
-        size: 113,
-        slope: 3,
-    },
-    Entry {
-        size: 127,
-        slope: 3,
-    },
-    Entry {
-        size: 131,
-        slope: 2,
-    },
-    Entry {
-        size: 137,
-        slope: 3,
-    },
-    Entry {
-        size: 139,
-        slope: 2,
-    },
-    Entry {
-        size: 149,
-        slope: 2,
-    },
-    Entry {
-        size: 151,
-        slope: 6,
-    },
-    Entry {
-        size: 157,
-        slope: 5,
-    },
-    Entry {
-        size: 163,
-        slope: 2,
-    },
-    Entry {
-        size: 167,
-        slope: 5,
-    },
-    Entry {
-        size: 173,
-        slope: 2,
-    },
-    Entry {
-        size: 179,
-        slope: 2,
-    },
-    Entry {
-        size: 181,
-        slope: 2,
-    },
-    Entry {
-        size: 191,
-        slope: 19,
-    },
-    Entry {
-        size: 193,
-        slope: 5,
-    },
-    Entry {
-        size: 197,
-        slope: 2,
-    },
-    Entry {
-        size: 199,
-        slope: 3,
-    },
-    Entry {
-        size: 211,
-        slope: 2,
-    },
-    Entry {
-        size: 223,
-        slope: 3,
-    },
-    Entry {
-        size: 227,
-        slope: 2,
-    },
-    Entry {
-        size: 229,
-        slope: 6,
-    },
-    Entry {
-        size: 233,
-        slope: 3,
-    },
-    Entry {
-        size: 239,
-        slope: 7,
-    },
-    Entry {
-        size: 241,
-        slope: 7,
-    },
-    Entry {
-        size: 251,
-        slope: 6,
-    },
-    Entry {
-        size: 257,
-        slope: 3,
-    },
+    Entry(5, 2),
+    Entry(7, 3),
+    Entry(11, 2),
+    Entry(13, 2),
+    Entry(17, 3),
+    Entry(19, 2),
+    Entry(23, 5),
+    Entry(29, 2),
+    Entry(31, 3),
+    Entry(37, 2),
+    Entry(41, 6),
+    Entry(43, 3),
+    Entry(47, 5),
+    Entry(53, 2),
+    Entry(59, 2),
+    Entry(61, 2),
+    Entry(67, 2),
+    Entry(71, 7),
+    Entry(73, 5),
+    Entry(79, 3),
+    Entry(83, 2),
+    Entry(89, 3),
+    Entry(97, 5),
+    Entry(101, 2),
+    Entry(103, 5),
+    Entry(107, 2),
+    Entry(109, 6),
+    Entry(113, 3),
+    Entry(127, 3),
+    Entry(131, 2),
+    Entry(137, 3),
+    Entry(139, 2),
+    Entry(149, 2),
+    Entry(151, 6),
+    Entry(157, 5),
+    Entry(163, 2),
+    Entry(167, 5),
+    Entry(173, 2),
+    Entry(179, 2),
+    Entry(181, 2),
+    Entry(191, 19),
+    Entry(193, 5),
+    Entry(197, 2),
+    Entry(199, 3),
+    Entry(211, 2),
+    Entry(223, 3),
+    Entry(227, 2),
+    Entry(229, 6),
+    Entry(233, 3),
+    Entry(239, 7),
+    Entry(241, 7),
+    Entry(251, 6),
+    Entry(257, 3),
 ];
 
 // What the house slope of a size is asked for gives.
@@ -197,8 +105,8 @@ pub fn house_slope(p: usize) -> House
     let mut i = 0;
     while i < 53 {
         let entry = table[i];
-        if entry.size == p {
-            return House::Slope(entry.slope);
+        if entry.0 == p {
+            return House::Slope(entry.1);
         }
         i += 1;
     }

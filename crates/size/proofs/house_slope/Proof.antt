@@ -14,7 +14,7 @@ use Rattle.size.proofs.house_slope.Statement.{statement}
 use Rattle.size.proofs.house_slope.Tie as tie
 
 abbrev Inv-loop : tie.InvT-loop
-Inv-loop p table i₀ i = T (tableOk table) × (i ≤ 53) × ((k : ℕ) → k < i → entryAt table k .size ≡ p → ⊥)
+Inv-loop p table i₀ i = T (tableOk table) × (i ≤ 53) × ((k : ℕ) → k < i → entryAt table k .0 ≡ p → ⊥)
 
 abbrev μ-loop : tie.MeasureT-loop
 μ-loop p table i₀ i = 53 - i
