@@ -16,7 +16,8 @@ use Rattle.xor.specs.Xor.{_⊕_, self, eq-of-zero}
 use Rattle.xor.specs.Sum.{keep}
 use Rattle.residue.specs.Remainder.{before, before-step}
 use Rattle.residue.specs.Power.{ReachesAll}
-use Rattle.code.specs.Size.{Size, Allowed, Slope, allowed-slope, slope-pos, slope-inverse}
+use Rattle.code.specs.Size.{Size, Allowed}
+use Rattle.code.specs.Slope.{Slope, allowed-slope, slope-pos, slope-inverse}
 use Rattle.code.specs.Tile.{Cells, tileLength, cell, OneSum, Good, On, EqualOutsideBoth}
 use Rattle.code.specs.Sums.{Padded, plus, padded-plus, one-sum-plus}
 use Rattle.code.specs.Place.{everywhere, cell-padded, cells-determine}

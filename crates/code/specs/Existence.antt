@@ -9,7 +9,7 @@ use Rattle.xor.specs.Xor.{_⊕_, self, byte}
 use Rattle.xor.specs.Sum.{xorBelow, ext}
 use Rattle.residue.specs.Remainder.{same, before, before-step}
 use Rattle.residue.specs.Power.{ReachesAll}
-use Rattle.code.specs.Size.{Slope, slope-pos, slope-inverse}
+use Rattle.code.specs.Slope.{Slope, slope-pos, slope-inverse}
 use Rattle.code.specs.Tile.{Cells, line}
 use Rattle.code.specs.Sums.{Padded}
 use Rattle.code.specs.Settle.{Settles}

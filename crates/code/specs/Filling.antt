@@ -7,7 +7,7 @@ use Prim.Native.Nat.{ℕ, _-_, _<_}
 use native.Mathlib.Omega.{arith}
 use Rattle.xor.specs.Xor.{_⊕_, again, zero-r, self, byte}
 use Rattle.residue.specs.Power.{ReachesAll}
-use Rattle.code.specs.Size.{Slope, slope-inverse}
+use Rattle.code.specs.Slope.{Slope, slope-inverse}
 use Rattle.code.specs.Tile.{Cells, cell, line, sum, Fills, Bytes}
 use Rattle.code.specs.Sums.{Same, plus, padded-plus, one-sum-ext, sum-byte, totals}
 use Rattle.code.specs.Place.{cell-byte, cell-padded, tileOf, tile-length, tile-cells, tile-bytes}

@@ -1,5 +1,6 @@
 -- The tile code: what a reader must believe (`Size`, `Tile`), and the paper's theorems, proved from that.
 pub mod Size
+pub mod Slope
 pub mod Tabulate
 pub mod Tile
 pub mod Test

@@ -35,8 +35,10 @@ pub record Hops (p l c : ℕ) (b : Line) (n : ℕ) (walk stop : ℕ → ℕ) : T
   pub start : walk 0 ≡ p - 1
   pub row : (k : ℕ) → walk k < p
   pub cell : (k : ℕ) → stop k < p
+  -- there by slope 1, and back by slope l
   pub first : (k : ℕ) → through p 1 b (stop k) ≡ line p 1 (walk k) c
   pub second : (k : ℕ) → through p l b (stop k) ≡ line p l (walk (k + 1)) c
+  -- what is passed
   pub rows : (i : ℕ) → i < p → (On b i c → ⊥) → (k : ℕ) × (k < n) × (walk k ≡ i)
   pub stops : (j : ℕ) → j < p → columnAt b j ≢ c → (k : ℕ) × (k < n) × (stop k ≡ j)
 
@@ -60,7 +62,7 @@ row-lt : (p : ℕ) (b : Line) (j : ℕ) → number b < p → j < p → rowAt b j
 row-lt p (Row r) j h k = h
 row-lt p (Column v) j h k = k
 
--- ---- on cells, the test of a line
+-- ---- the test whether a cell is on a line
 
 abbrev on : Line → ℕ → ℕ → Bool
 on (Row r) i j = eqb i r
@@ -126,7 +128,7 @@ module _ (p l m : ℕ) (inverse : l * m % p ≡ 1) (A B : ℕ → ℕ) (c : ℕ)
       at s S = rw e (left-at s S (own D) i (row-lt p b j hb hj))
 
   module _ (n : ℕ) (walk stop : ℕ → ℕ) (hops : Hops p l c b n walk stop) where
-    -- the column's change is handed on along the hops exactly if b settles what is left, and the sums at a crossing agree
+    -- the sums that are left on the two lines of a hop
     first-left : (x : ℕ → ℕ) (k : ℕ) → left p 1 A c x (through p 1 b (stop k)) ≡ A (line p 1 (walk k) c) ⊕ x (walk k)
     first-left x k = rw (hops .first k) (left-at 1 A x (walk k) (hops .row k))
 
@@ -138,6 +140,8 @@ module _ (p l m : ℕ) (inverse : l * m % p ≡ 1) (A B : ℕ → ℕ) (c : ℕ)
         → shifted p (left p 1 A c x) b (stop k) ≡ A (line p 1 (walk k) c) ⊕ x (walk k) ⊕ left p 1 A c x (through p 1 b (p - 1))
     line-symbol x k = ap (λ (y : ℕ). y ⊕ left p 1 A c x (through p 1 b (p - 1))) (first-left x k)
 
+    -- where b can settle what is left, the change in the column is handed on along the hops; and the reverse, where the sums in a
+    -- crossing agree
     agree-chain : (x : ℕ → ℕ) → x (p - 1) ≡ 0 → Agree p l (left p 1 A c x) (left p l B c x) b → Chain n walk (hop p l A B c walk) x
     agree-chain x z e = record {
       start = ap x (hops .start) ∙ z;

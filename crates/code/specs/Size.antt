@@ -1,11 +1,8 @@
--- Which sizes and slopes there are, in the words of document 01. What a prime is, and what powers reach, is said in the crate
--- `residue` (`Prime`, `ReachesAll`). Assumes nothing.
-use mathlib.Core.Path.{_≡_}
-use Prim.Native.Nat.{ℕ, _+_, _*_, _%_, _≤_, _<_}
-use native.Mathlib.Omega.{arith}
-use Rattle.residue.specs.Remainder.{below-pos}
-use Rattle.residue.specs.Prime.{Prime, inverse}
-use Rattle.residue.specs.Power.{ReachesAll, inverse-between}
+-- WHAT A READER MUST BELIEVE: which sizes and slopes there are, in the words of document 01. What a prime is, and what powers reach, is
+-- said in the crate `residue` (`Prime`, `ReachesAll`). Assumes nothing.
+use Prim.Native.Nat.{ℕ, _+_, _≤_}
+use Rattle.residue.specs.Prime.{Prime}
+use Rattle.residue.specs.Power.{ReachesAll}
 
 -- "The size p is a prime from 5 to 257."
 pub record Size (p : ℕ) : Type 0 where
@@ -18,22 +15,3 @@ pub record Allowed (p l : ℕ) : Type 0 where
   pub low : 2 ≤ l
   pub high : l + 2 ≤ p
   pub reach : ReachesAll p l
-
--- What most laws ask of a slope, whatever its powers reach: p is prime, and l is from 2 to p-2.
-pub record Slope (p l : ℕ) : Type 0 where
-  pub prime : Prime p
-  pub low : 2 ≤ l
-  pub high : l + 2 ≤ p
-
-pub allowed-slope : (p l : ℕ) → Size p → Allowed p l → Slope p l
-allowed-slope p l s a = record { prime = s .prime; low = a .low; high = a .high }
-
-pub slope-pos : (p l : ℕ) → Slope p l → 0 < l % p
-slope-pos p l s = below-pos p l (omega arith) (omega arith)
-
--- the inverse of a slope is a slope
-pub slope-inverse : (p l : ℕ) → Slope p l → (m : ℕ) × (l * m % p ≡ 1) × Slope p m
-slope-inverse p l s =
-    let t = inverse p l (s .prime) (slope-pos p l s) in
-    let b = inverse-between p l (t .0) (s .prime) (t .1) (t .2) (s .low) (s .high) in
-    (t .0, t .2, record { prime = s .prime; low = b .0; high = b .1 })

@@ -8,7 +8,7 @@ use lib.Dec.{ltb}
 use lib.ListN.{length, getD}
 use borrow.Author.Tests.{lt-ltb, le-ltb}
 use Rattle.xor.specs.Sum.{keep, keep-zero, keep-byte}
-use Rattle.code.specs.Size.{Slope}
+use Rattle.code.specs.Slope.{Slope}
 use Rattle.code.specs.Tile.{Cells, textLength, Writes, Bytes}
 use Rattle.code.specs.Sums.{Padded}
 use Rattle.code.specs.Place.{tileOf, tile-cells, tile-bytes, text-at, text-is}

@@ -22,23 +22,23 @@ pub record HouseSlope (p l : ℕ) : Type 0 where
 pub data Said : Type 0 where
   slope : ℕ → Said
   well : Said
-  no : ℕ → Said
+  refused : ℕ → Said
 
 abbrev pub houseSaid : House → Said
 houseSaid (Slope l) = slope l
-houseSaid (Refused r) = no (numberOf r)
+houseSaid (Refused r) = refused (numberOf r)
 
 abbrev pub judgementSaid : Judgement → Said
 judgementSaid judgement.Taken = well
-judgementSaid (judgement.Refused r) = no (numberOf r)
+judgementSaid (judgement.Refused r) = refused (numberOf r)
 
 -- "A call gives it for a size, or refuses with 1."
 pub data HouseTold (p : ℕ) : Said → Type 0 where
   given : {l : ℕ} → Size p → HouseSlope p l → HouseTold p (slope l)
-  no-size : (Size p → ⊥) → HouseTold p (no 1)
+  no-size : (Size p → ⊥) → HouseTold p (refused 1)
 
 -- 1 exactly when "p is no prime from 5 to 257"; then 2 exactly when "l is outside 2 to p-2, or its powers miss a remainder"
 pub data Judged (p l : ℕ) : Said → Type 0 where
   taken : Size p → Allowed p l → Judged p l well
-  no-size : (Size p → ⊥) → Judged p l (no 1)
-  no-slope : Size p → (Allowed p l → ⊥) → Judged p l (no 2)
+  no-size : (Size p → ⊥) → Judged p l (refused 1)
+  no-slope : Size p → (Allowed p l → ⊥) → Judged p l (refused 2)

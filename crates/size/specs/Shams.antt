@@ -5,7 +5,7 @@ use Prim.Native.Nat.{ℕ}
 use native.Mathlib.Omega.{arith}
 use Rattle.code.specs.Size.{Size, Allowed}
 use Rattle.code.specs.Test.{upTo}
-use Rattle.size.specs.Answer.{Says, slope, well, no, HouseTold, given, Judged, no-slope}
+use Rattle.size.specs.Answer.{Says, slope, well, refused, HouseTold, given, Judged, no-slope}
 use Rattle.size.specs.Refusal.{numberOf}
 use Rattle.size.specs.declared.Refusal.the-variants.{BadMark, CutShort}
 use Rattle.size.specs.Told.{given-size, refused-size, judged-well, judged-no}
@@ -70,7 +70,7 @@ pub always-2 : HouseTold 7 (slope 2) → ⊥
 always-2 (given s h) = no-at-7-2 (h .allowed)
 
 -- a house slope call that refuses the last size
-pub last-size-refused : HouseTold 257 (no 1) → ⊥
+pub last-size-refused : HouseTold 257 (refused 1) → ⊥
 last-size-refused t = refused-size t size-257
 
 -- a house slope that is allowed and not the smallest
@@ -107,7 +107,7 @@ pub refuses-2-at-5 : Says false (Size 5 × Allowed 5 2) → ⊥
 refuses-2-at-5 f = f (size-5, at-5-2)
 
 -- a judgement that refuses the slope before the size
-pub slope-first : Judged 9 2 (no 2) → ⊥
+pub slope-first : Judged 9 2 (refused 2) → ⊥
 slope-first (no-slope s f) = no-size-9 s
 
 -- a judgement that takes p - 1 for a slope: its bound is one too high
@@ -115,9 +115,9 @@ pub takes-6-at-7 : Judged 7 6 well → ⊥
 takes-6-at-7 t = no-at-7-6 (judged-well t .1)
 
 -- a judgement that refuses an allowed slope
-pub refuses-3-at-7 : (n : ℕ) → Judged 7 3 (no n) → ⊥
+pub refuses-3-at-7 : (n : ℕ) → Judged 7 3 (refused n) → ⊥
 refuses-3-at-7 n t = judged-no t (size-7, at-7-3)
 
 -- a judgement that refuses p - 2, the largest allowed at 7: its bound is one too low
-pub refuses-5-at-7 : (n : ℕ) → Judged 7 5 (no n) → ⊥
+pub refuses-5-at-7 : (n : ℕ) → Judged 7 5 (refused n) → ⊥
 refuses-5-at-7 n t = judged-no t (size-7, at-7-5)

@@ -3,7 +3,7 @@ use mathlib.Core.Path.{_≡_, subst}
 use mathlib.Core.Bool.{Bool, true, false}
 use Prim.Native.Nat.{ℕ}
 use Rattle.code.specs.Size.{Size, Allowed}
-use Rattle.size.specs.Answer.{Says, slope, well, no, HouseTold, given, no-size, Judged, taken, no-slope}
+use Rattle.size.specs.Answer.{Says, slope, well, refused, HouseTold, given, no-size, Judged, taken, no-slope}
 
 -- a bool that says whether A holds: where it is true A does, and where it is false A does not
 pub says-true : {b : Bool} {A : Type 0} → Says b A → b ≡ true → A
@@ -16,13 +16,13 @@ says-false {b} {A} s e = subst (λ (x : Bool). Says x A) e s
 pub given-size : {p l : ℕ} → HouseTold p (slope l) → Size p
 given-size (given s h) = s
 
-pub refused-size : {p n : ℕ} → HouseTold p (no n) → Size p → ⊥
+pub refused-size : {p n : ℕ} → HouseTold p (refused n) → Size p → ⊥
 refused-size (no-size f) s = f s
 
 -- what is judged well is a size with a slope that it allows, and what is refused is not
 pub judged-well : {p l : ℕ} → Judged p l well → Size p × Allowed p l
 judged-well (taken s a) = (s, a)
 
-pub judged-no : {p l n : ℕ} → Judged p l (no n) → Size p × Allowed p l → ⊥
+pub judged-no : {p l n : ℕ} → Judged p l (refused n) → Size p × Allowed p l → ⊥
 judged-no (no-size f) t = f (t .0)
 judged-no (no-slope s f) t = f (t .1)
