@@ -1,5 +1,5 @@
 -- Values handed on along a closed walk: n places, each passed once, the n-th step coming back to the first. Starting from 0 and adding
--- a term at each step fixes a value for each place; it exists exactly if the terms add up to zero round the walk. Both chains of the
+-- a term at each step fixes a value for each place, and where the terms add up to zero round the walk it exists. Both chains of the
 -- paper, for two columns and for a row with a column, are such walks. Assumes nothing.
 use mathlib.Core.Path.{_≡_, sym, ap, _∙_}
 use mathlib.Core.Logic.{_≢_, _⊎_, inl, inr}

@@ -1,6 +1,6 @@
 -- A hurt row s with a hurt column t: the paper's chain (24) to (29). Counted from the crossing, the hops go from the offset o to l o, so
--- they pass every offset but 0 exactly if the powers of l reach all. They start at the added zero of the column, at the offset p - 1 - s.
--- The terms add up to the two sums through the crossing, so the chain closes exactly if these agree. Assumes nothing.
+-- they pass every offset but 0 where the powers of l reach all. They start at the added zero of the column, at the offset p - 1 - s.
+-- The terms add up to the two sums through the crossing, so the chain closes where these agree. Assumes nothing.
 use mathlib.Core.Path.{_≡_, sym, ap, ap₂, _∙_}
 use mathlib.Core.Logic.{_≢_, _⊎_, inl, inr, ⊎-elim}
 use mathlib.Core.Bool.{Bool, true, false}
