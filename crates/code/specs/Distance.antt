@@ -19,8 +19,8 @@ use Rattle.residue.specs.Power.{ReachesAll}
 use Rattle.code.specs.Size.{Size, Allowed}
 use Rattle.code.specs.Slope.{Slope, allowed-slope, slope-pos, slope-inverse}
 use Rattle.code.specs.Tile.{Cells, tileLength, cell, OneSum, Good, On, EqualOutsideBoth}
-use Rattle.code.specs.Sums.{Padded, plus, padded-plus, one-sum-plus}
-use Rattle.code.specs.Place.{everywhere, cell-padded, cells-determine}
+use Rattle.code.specs.Sums.{Padded, one-sum-plus}
+use Rattle.code.specs.Place.{everywhere, difference, difference-padded, cells-determine}
 use Rattle.code.specs.Turn.{turned, good-turned, padded-turned}
 use Rattle.code.specs.OneLine.{number}
 use Rattle.code.specs.Pair.{ZeroOffBoth, line-zero, pair-zero}
@@ -114,17 +114,11 @@ pub equal-tiles : (p l : ℕ) (a b : Line) (x y : List ℕ) → Slope p l → (P
     → length x ≡ tileLength p → length y ≡ tileLength p → Good p l x → Good p l y → EqualOutsideBoth p a b x y → x ≡ y
 equal-tiles p l a b x y S h ex ey gx gy same =
     cells-determine p x y (omega arith) ex ey (λ i j hi hj. eq-of-zero _ _
-    (lines-blank p l (kept p a) (kept p b) D S (⊎-elim (λ q. inl (kept-parallel p a b q)) inr h) (kept-lt p a (omega arith)) (kept-lt p b (omega arith))
-    (one-sum-plus p l (cell p x) (cell p y) gx gy) padded off i j (omega arith) (omega arith)))
+    (lines-blank p l (kept p a) (kept p b) (difference p x y) S (⊎-elim (λ q. inl (kept-parallel p a b q)) inr h) (kept-lt p a (omega arith)) (kept-lt p b (omega arith))
+    (one-sum-plus p l (cell p x) (cell p y) gx gy) (difference-padded p x y) off i j (omega arith) (omega arith)))
   where
-    D : Cells
-    D = plus (cell p x) (cell p y)
-
-    padded : Padded p D
-    padded = padded-plus p (cell p x) (cell p y) (cell-padded p x) (cell-padded p y)
-
-    off : ZeroOffBoth p (kept p a) (kept p b) D
-    off = within-off p (kept p a) (kept p b) D padded (λ i j hi hj d e.
+    off : ZeroOffBoth p (kept p a) (kept p b) (difference p x y)
+    off = within-off p (kept p a) (kept p b) (difference p x y) (difference-padded p x y) (λ i j hi hj d e.
         ap (λ (z : ℕ). z ⊕ cell p y i j) (same i j hi hj (λ o. d (kept-on p a i j hi hj o)) (λ o. e (kept-on p b i j hi hj o))) ∙ self _)
 
 -- THE DISTANCE, as document 01's slopes have it

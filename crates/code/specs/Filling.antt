@@ -10,7 +10,7 @@ use Rattle.residue.specs.Power.{ReachesAll}
 use Rattle.code.specs.Slope.{Slope, slope-inverse}
 use Rattle.code.specs.Tile.{Cells, cell, line, sum, Fills, Bytes}
 use Rattle.code.specs.Sums.{Same, plus, padded-plus, one-sum-ext, sum-byte, totals}
-use Rattle.code.specs.Place.{cell-byte, cell-padded, tileOf, tile-length, tile-cells, tile-bytes}
+use Rattle.code.specs.Place.{difference, difference-padded, cell-byte, cell-padded, tileOf, tile-length, tile-cells, tile-bytes}
 use Rattle.code.specs.Settle.{Settles, settles-good, good-settles}
 use Rattle.code.specs.OneLine.{number, nth, ZeroOff, Agree, shifted, one-line-agrees, one-line-change}
 use Rattle.code.specs.Pair.{ZeroOffBoth, pair-crossing}
@@ -31,6 +31,7 @@ filled-once p l a b x y z S h f g =
 -- ---- a filling is a change that settles the tile's sums
 
 module _ (p l : ℕ) (a b : Line) (x : List ℕ) where
+  -- a change within the lines that settles the tile's sums makes a filling
   settled-filled : Settled p l a b (sum p 1 (cell p x)) (sum p l (cell p x)) → Filled p l a b x
   settled-filled t = (
     tileOf p U,
@@ -52,18 +53,16 @@ module _ (p l : ℕ) (a b : Line) (x : List ℕ) where
       sum-bytes : Bytes x → (s k : ℕ) → sum p s (cell p x) k < 256
       sum-bytes h s k = sum-byte p s k (cell p x) (cell-byte p x h)
 
-  -- the change that a filling makes
-  abbrev made : List ℕ → Cells
-  made y = plus (cell p x) (cell p y)
+  -- the change that a filling makes is the difference of the two tiles
+  filled-settles : (y : List ℕ) → Fills p l a b x y → Settles p l (sum p 1 (cell p x)) (sum p l (cell p x)) (difference p x y)
+  filled-settles y f =
+      good-settles p l (cell p x) (difference p x y) (one-sum-ext p l (cell p y) (plus (cell p x) (difference p x y)) (λ i j hi hj. sym (again _ _)) (f .good))
 
-  filled-settles : (y : List ℕ) → Fills p l a b x y → Settles p l (sum p 1 (cell p x)) (sum p l (cell p x)) (made y)
-  filled-settles y f = good-settles p l (cell p x) (made y) (one-sum-ext p l (cell p y) (plus (cell p x) (made y)) (λ i j hi hj. sym (again _ _)) (f .good))
-
-  filled-off : (y : List ℕ) → Fills p l a b x y → ZeroOffBoth p a b (made y)
-  filled-off y f = within-off p a b (made y) (padded-plus p (cell p x) (cell p y) (cell-padded p x) (cell-padded p y))
+  filled-off : (y : List ℕ) → Fills p l a b x y → ZeroOffBoth p a b (difference p x y)
+  filled-off y f = within-off p a b (difference p x y) (difference-padded p x y)
       (λ i j hi hj d e. ap (λ (z : ℕ). z ⊕ cell p y i j) (f .agrees i j hi hj d e) ∙ self _)
 
-line-off : (p l : ℕ) (a : Line) (x y : List ℕ) → Fills p l a a x y → ZeroOff p a (made p l a a x y)
+line-off : (p l : ℕ) (a : Line) (x y : List ℕ) → Fills p l a a x y → ZeroOff p a (difference p x y)
 line-off p l a x y f i j hi hj d = filled-off p l a a x y f i j hi hj d d
 
 -- ---- which tiles have a filling
@@ -81,7 +80,7 @@ pub crossing-agrees : (p l s t : ℕ) (x y : List ℕ) → Slope p l → s < p -
     → sum p 1 (cell p x) (line p 1 s t) ≡ sum p l (cell p x) (line p l s t)
 crossing-agrees p l s t x y S hs ht f =
     let i = slope-inverse p l S in
-    pair-crossing p l (i .0) (i .1) _ _ t (omega arith) (Row s) (omega arith) (made p l (Column t) (Row s) x y)
+    pair-crossing p l (i .0) (i .1) _ _ t (omega arith) (Row s) (omega arith) (difference p x y)
     (filled-settles p l (Column t) (Row s) x y f) (filled-off p l (Column t) (Row s) x y f) t (omega arith) refl
 
 -- .. and where the powers reach all, exactly if they do
@@ -101,14 +100,13 @@ pub line-filled : (p l : ℕ) (a : Line) (x : List ℕ) → Slope p l → number
     → Filled p l a a x ↔ Agree p l (sum p 1 (cell p x)) (sum p l (cell p x)) a
 line-filled p l a x S h = (
   λ f. let i = slope-inverse p l S in
-      one-line-agrees p l (i .0) (i .1) _ _ a (made p l a a x (f .0)) (omega arith) (filled-settles p l a a x (f .0) (f .1)) (line-off p l a x (f .0) (f .1)),
+      one-line-agrees p l (i .0) (i .1) _ _ a (difference p x (f .0)) (omega arith) (filled-settles p l a a x (f .0) (f .1)) (line-off p l a x (f .0) (f .1)),
   λ e. settled-filled p l a a x (line-settled p l a _ _ S h e),
 )
 
 -- .. and its difference from the tile is the shifted sum, with the common byte taken off
 pub line-difference : (p l : ℕ) (a : Line) (x y : List ℕ) → Slope p l → number a < p - 1 → Fills p l a a x y
-    → (k : ℕ) → k < p → nth a (plus (cell p x) (cell p y)) k ≡ shifted p (sum p 1 (cell p x)) a k
+    → (k : ℕ) → k < p → nth a (difference p x y) k ≡ shifted p (sum p 1 (cell p x)) a k
 line-difference p l a x y S h f =
     let i = slope-inverse p l S in
-    one-line-change p l (i .0) (i .1) _ _ a (made p l a a x y) (omega arith) (filled-settles p l a a x y f) (line-off p l a x y f)
-    (padded-plus p (cell p x) (cell p y) (cell-padded p x) (cell-padded p y))
+    one-line-change p l (i .0) (i .1) _ _ a (difference p x y) (omega arith) (filled-settles p l a a x y f) (line-off p l a x y f) (difference-padded p x y)

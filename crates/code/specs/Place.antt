@@ -14,7 +14,7 @@ use borrow.Author.Tests.{lt-ltb, le-ltb}
 use Rattle.xor.specs.Sum.{keep-zero, keep-byte}
 use Rattle.code.specs.Tabulate.{tabulate, tabulate-length, tabulate-at, tabulate-bytes}
 use Rattle.code.specs.Tile.{Cells, tileLength, place, cell, textLength, textOf, Bytes}
-use Rattle.code.specs.Sums.{Padded, Same}
+use Rattle.code.specs.Sums.{Padded, Same, plus, padded-plus}
 
 -- ---- n rows of w bytes, row by row
 
@@ -48,6 +48,13 @@ cell-padded p tile = record {
   row = λ j h. rw (le-ltb (p - 1) (p - 1) (omega arith));
   column = λ i h. rw (le-ltb (p - 1) (p - 1) (omega arith)) (keep-zero (ltb i (p - 1)));
 }
+
+-- where two tiles differ, and by what
+abbrev pub difference : ℕ → List ℕ → List ℕ → Cells
+difference p x y = plus (cell p x) (cell p y)
+
+pub difference-padded : (p : ℕ) (x y : List ℕ) → Padded p (difference p x y)
+difference-padded p x y = padded-plus p (cell p x) (cell p y) (cell-padded p x) (cell-padded p y)
 
 pub cell-byte : (p : ℕ) (tile : List ℕ) → Bytes tile → (i j : ℕ) → cell p tile i j < 256
 unfolding cell
