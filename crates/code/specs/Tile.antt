@@ -18,7 +18,7 @@ Cells = ℕ → ℕ → ℕ
 abbrev pub tileLength : ℕ → ℕ
 tileLength p = (p - 1) * (p - 1)
 
--- where the cell in row i and column j stands in memory: nothing else knows
+-- "row by row": where the cell in row i and column j stands in memory. This is the one definition that knows
 unfoldable pub place : ℕ → ℕ → ℕ → ℕ
 place p i j = i * (p - 1) + j
 
@@ -58,19 +58,21 @@ pub record Writes (p l : ℕ) (text tile : List ℕ) : Type 0 where
   pub good : Good p l tile
   pub has : textOf p tile ≡ text
 
--- the cell in row i and column j stands on a line: on that row, on that column
+-- "each a row or a column": the cell in row i and column j is on the line
 abbrev pub On : Line → ℕ → ℕ → Type 0
 On (Row r) i j = i ≡ r
 On (Column c) i j = j ≡ c
 
--- two tiles are equal outside one line; outside two lines
+-- "differs from it in cells of one column only", and "the same for a row": two tiles are equal outside one line
 abbrev pub EqualOutside : ℕ → Line → List ℕ → List ℕ → Type 0
 EqualOutside p a x y = (i j : ℕ) → i < p - 1 → j < p - 1 → (On a i j → ⊥) → cell p x i j ≡ cell p y i j
 
+-- "agrees with it elsewhere", where "one or two lines are flagged": two tiles are equal outside two lines. "The same line named twice
+-- counts as one line; row 3 and column 3 are two lines."
 abbrev pub EqualOutsideBoth : ℕ → Line → Line → List ℕ → List ℕ → Type 0
 EqualOutsideBoth p a b x y = (i j : ℕ) → i < p - 1 → j < p - 1 → (On a i j → ⊥) → (On b i j → ⊥) → cell p x i j ≡ cell p y i j
 
--- "the good tile that agrees with it elsewhere": y is a filling of x in the lines a and b. One line is the same line named twice
+-- "the good tile that agrees with it elsewhere": y is a filling of x in the lines a and b
 pub record Fills (p l : ℕ) (a b : Line) (x y : List ℕ) : Type 0 where
   pub size : length y ≡ tileLength p
   pub good : Good p l y
