@@ -7,8 +7,8 @@ use native.Mathlib.Nat.{mod-lt, mod-eq-of-lt, mod-add-mod, suc-mul, zero-mod}
 use native.Mathlib.Omega.{arith, by-contra}
 use Rattle.xor.specs.Xor.{_⊕_, self}
 use Rattle.xor.specs.Sum.{xorBelow, ext, split}
-use Rattle.residue.specs.Remainder.{same, add-alike, before, before-lt, before-step, step-before, below, below-pos}
-use Rattle.residue.specs.Prime.{Prime, mul-cancel, meets, closes, once}
+use Rattle.residue.specs.Remainder.{same, steps-close, add-alike, before, before-lt, before-step, step-before, below, below-pos}
+use Rattle.residue.specs.Prime.{Prime, mul-cancel, meets, once}
 use Rattle.code.specs.Tile.{line}
 use Rattle.code.specs.Chain.{stepped}
 use Rattle.code.specs.Pair.{Hops, hop}
@@ -17,6 +17,13 @@ use Rattle.code.specs.declared.Line.the-variants.{Column}
 -- d is (l - 1)(v - u), up to multiples of p
 abbrev pub Stride : ℕ → ℕ → ℕ → ℕ → ℕ → Type 0
 Stride p l u v d = (d + (l - 1) * u) % p ≡ (l - 1) * v % p
+
+pub stride : ℕ → ℕ → ℕ → ℕ → ℕ
+stride p l u v = before p ((l - 1) * u) ((l - 1) * v % p)
+
+pub stride-is : (p l u v : ℕ) → 0 < p → Stride p l u v (stride p l u v)
+unfolding stride
+stride-is p l u v h = before-step p ((l - 1) * u) ((l - 1) * v % p) (mod-lt _ h)
 
 -- the rows that the chain passes in the one column, from the added zero on, and where it stops in the other
 abbrev pub rowBy : ℕ → ℕ → ℕ → ℕ
@@ -44,7 +51,7 @@ columns-hops p l u v d P low high hu hv apart step = record {
   round = record {
     some = pos;
     once = λ j k jk kp e. omega (arith, once P (p - 1) d j k d-pos (omega arith) kp e);
-    closes = closes P (p - 1) d;
+    closes = steps-close p (p - 1) d;
   };
   start = same p (omega arith) ∙ mod-eq-of-lt (omega arith);
   row = λ k. mod-lt _ pos;

@@ -6,7 +6,6 @@ use mathlib.Core.Logic.{_⊎_, inl, inr, ⊎-elim}
 use mathlib.Core.Bool.{Bool, true, false}
 use mathlib.Core.List.{List}
 use Prim.Native.Nat.{ℕ, _-_, _*_, _%_, _<_}
-use native.Mathlib.Nat.{mod-lt}
 use native.Mathlib.Decide.{ℕ-discrete}
 use native.Mathlib.Omega.{arith}
 use lib.Dec.{ltb}
@@ -14,7 +13,6 @@ use lib.ListN.{length}
 use borrow.Author.Tests.{lt-ltb, ltb-true}
 use Rattle.xor.specs.Xor.{_⊕_, self, eq-of-zero}
 use Rattle.xor.specs.Sum.{keep}
-use Rattle.residue.specs.Remainder.{before, before-step}
 use Rattle.residue.specs.Power.{ReachesAll}
 use Rattle.code.specs.Size.{Size, Allowed}
 use Rattle.code.specs.Slope.{Slope, allowed-slope, slope-pos, slope-inverse}
@@ -24,7 +22,7 @@ use Rattle.code.specs.Place.{everywhere, difference, difference-padded, 
 use Rattle.code.specs.Turn.{turned, good-turned, padded-turned}
 use Rattle.code.specs.OneLine.{number}
 use Rattle.code.specs.Pair.{ZeroOffBoth, line-zero, pair-zero}
-use Rattle.code.specs.Columns.{rowBy, stopBy, columns-hops}
+use Rattle.code.specs.Columns.{stride, stride-is, rowBy, stopBy, columns-hops}
 use Rattle.code.specs.Crossed.{cellBy, crossed-hops}
 use Rattle.code.specs.declared.Line.{Line}
 use Rattle.code.specs.declared.Line.the-variants.{Row, Column}
@@ -49,9 +47,9 @@ columns-blank p l u v D S hu hv good padded off = go (ℕ-discrete u v)
     go : Dec (u ≡ v) → Blank p D
     go (yes e) = line-zero p l (t .0) (Column v) D (t .1) hv good padded (λ i j hi hj d. off i j hi hj (λ q. d (q ∙ e)) d)
     go (no d) =
-        let k : ℕ = before p ((l - 1) * u) ((l - 1) * v % p) in
+        let k : ℕ = stride p l u v in
         pair-zero p l (t .0) u (Column v) p (rowBy p k) (stopBy p k u v) D (t .1) hu hv
-        (columns-hops p l u v k (S .prime) (S .low) (omega (arith, S .high)) hu hv d (before-step p ((l - 1) * u) ((l - 1) * v % p) (mod-lt _ (omega arith))))
+        (columns-hops p l u v k (S .prime) (S .low) (omega (arith, S .high)) hu hv d (stride-is p l u v (omega arith)))
         good padded off
 
 crossed-blank : (p l s t : ℕ) (D : Cells) → Slope p l → ReachesAll p l → s < p - 1 → t < p → OneSum p l D → Padded p D

@@ -3,11 +3,10 @@
 use mathlib.Core.Path.{_≡_, sym, ap, _∙_}
 use mathlib.Core.Logic.{_≢_}
 use Prim.Native.Nat.{ℕ, _+_, _-_, _*_, _%_, _<_}
-use native.Mathlib.Nat.{mod-lt}
 use native.Mathlib.Omega.{arith}
 use Rattle.xor.specs.Xor.{_⊕_, self, byte}
 use Rattle.xor.specs.Sum.{xorBelow, ext}
-use Rattle.residue.specs.Remainder.{same, before, before-step}
+use Rattle.residue.specs.Remainder.{same}
 use Rattle.residue.specs.Power.{ReachesAll}
 use Rattle.code.specs.Slope.{Slope, slope-pos, slope-inverse}
 use Rattle.code.specs.Tile.{Cells, line}
@@ -17,7 +16,7 @@ use Rattle.code.specs.Turn.{turned, padded-turned, turned-settles}
 use Rattle.code.specs.OneLine.{number, Agree, shifted, along, along-off, along-padded, along-byte, one-line-settles}
 use Rattle.code.specs.Chain.{Chain, chain-closes, handed, handed-chain, handed-byte, stepped}
 use Rattle.code.specs.Pair.{ZeroOffBoth, Hops, hop, CrossingAgrees, change, pair-settles, change-padded, change-off, change-byte}
-use Rattle.code.specs.Columns.{Stride, rowBy, stopBy, stride-pos, columns-hops, columns-close}
+use Rattle.code.specs.Columns.{Stride, stride, stride-is, rowBy, stopBy, stride-pos, columns-hops, columns-close}
 use Rattle.code.specs.Crossed.{cellBy, crossed-hops, crossed-total}
 use Rattle.code.specs.declared.Line.{Line}
 use Rattle.code.specs.declared.Line.the-variants.{Row, Column}
@@ -96,9 +95,9 @@ module _ (p l c : ℕ) (b : Line) (A B : ℕ → ℕ) (n : ℕ) (walk stop : ℕ
 pub columns-settled : (p l u v : ℕ) (A B : ℕ → ℕ) → Slope p l → u < p - 1 → v < p - 1 → u ≢ v → xorBelow p A ≡ xorBelow p B
     → Settled p l (Column u) (Column v) A B
 columns-settled p l u v A B S hu hv apart e =
-    let d : ℕ = before p ((l - 1) * u) ((l - 1) * v % p) in
+    let d : ℕ = stride p l u v in
     chained p l u (Column v) A B p (rowBy p d) (stopBy p d u v) S
-    (columns-closing p l u v d A B S (omega arith) (omega arith) apart (before-step p ((l - 1) * u) ((l - 1) * v % p) (mod-lt _ (omega arith))) e) hu hv
+    (columns-closing p l u v d A B S (omega arith) (omega arith) apart (stride-is p l u v (omega arith)) e) hu hv
 
 -- rows are columns of the turned tile
 pub rows-settled : (p l r s : ℕ) (A B : ℕ → ℕ) → Slope p l → r < p - 1 → s < p - 1 → r ≢ s → xorBelow p A ≡ xorBelow p B

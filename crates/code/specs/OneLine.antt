@@ -75,23 +75,20 @@ along-byte (Column c) x h i j = keep-byte (eqb j c) (x i) (h i)
 
 module _ (p l : ℕ) (A B : ℕ → ℕ) (c : ℕ) (hc : c < p) where
   module _ (D : Cells) (g : Settles p l A B D) (off : ZeroOff p (Column c) D) where
-    -- what the lines through the cell i say of the change there
-    first-at : (i : ℕ) → i < p → A (line p 1 i c) ⊕ D i c ≡ g .common
-    first-at i hi = ap (λ (x : ℕ). A (line p 1 i c) ⊕ x) (sym (sum-column p 1 c i D off hc hi)) ∙ g .first (line p 1 i c) (mod-lt _ (omega arith))
-
-    second-at : (i : ℕ) → i < p → B (line p l i c) ⊕ D i c ≡ g .common
-    second-at i hi = ap (λ (x : ℕ). B (line p l i c) ⊕ x) (sym (sum-column p l c i D off hc hi)) ∙ g .second (line p l i c) (mod-lt _ (omega arith))
+    -- what the slope-s line through the cell i says of the change there
+    at-cell : (s : ℕ) (S : ℕ → ℕ) → ((t : ℕ) → t < p → S t ⊕ sum p s D t ≡ g .common) → (i : ℕ) → i < p → S (line p s i c) ⊕ D i c ≡ g .common
+    at-cell s S h i hi = ap (λ (x : ℕ). S (line p s i c) ⊕ x) (sym (sum-column p s c i D off hc hi)) ∙ h (line p s i c) (mod-lt _ (omega arith))
 
     column-agrees : Agree p l A B (Column c)
-    column-agrees i hi = from₂ (first-at i hi) (second-at i hi) (simp xors)
+    column-agrees i hi = from₂ (at-cell 1 A (g .first) i hi) (at-cell l B (g .second) i hi) (simp xors)
 
     column-change : D (p - 1) c ≡ 0 → (i : ℕ) → i < p → D i c ≡ shifted p A (Column c) i
-    column-change z i hi = from₂ (first-at i hi) (first-at (p - 1) (omega arith)) (rw z (simp xors))
+    column-change z i hi = from₂ (at-cell 1 A (g .first) i hi) (at-cell 1 A (g .first) (p - 1) (omega arith)) (rw z (simp xors))
 
   -- the sums of slope s, if they are those of slope 1 along the column: the change makes each the common byte
   made : (s : ℕ) (S : ℕ → ℕ) → ((i : ℕ) → i < p → A (line p 1 i c) ≡ S (line p s i c)) → (t : ℕ) → t < p
       → S t ⊕ sum p s (along (Column c) (shifted p A (Column c))) t ≡ A (line p 1 (p - 1) c)
-  made s S e t ht = rw (before-step p (s * c) t ht) at at-cell
+  made s S e t ht = rw (before-step p (s * c) t ht) at through-column
     where
       i : ℕ
       i = before p (s * c) t
@@ -102,8 +99,8 @@ module _ (p l : ℕ) (A B : ℕ → ℕ) (c : ℕ) (hc : c < p) where
       D : Cells
       D = along (Column c) (shifted p A (Column c))
 
-      at-cell : S (line p s i c) ⊕ sum p s D (line p s i c) ≡ A (line p 1 (p - 1) c)
-      at-cell =
+      through-column : S (line p s i c) ⊕ sum p s D (line p s i c) ≡ A (line p 1 (p - 1) c)
+      through-column =
           ap₂ _⊕_ (sym (e i hi)) (sum-column p s c i D (along-off p (Column c) (shifted p A (Column c))) hc hi ∙ along-nth (Column c) (shifted p A (Column c)) i)
           ∙ again _ _
 

@@ -8,12 +8,12 @@
 -- Where these hops pass every cell that is asked for, the change in the column is handed on along them from the added zero (`Chain`),
 -- and the second line then settles what is left as one hurt line does (`OneLine`). Assumes nothing.
 use mathlib.Core.Path.{_≡_, refl, sym, ap, ap₂, _∙_}
-use mathlib.Core.Logic.{_≢_, _⊎_, inl, inr, ⊎-elim}
+use mathlib.Core.Logic.{_≢_}
 use mathlib.Core.Bool.{Bool, false, not}
 use Prim.Native.Nat.{ℕ, _+_, _-_, _*_, _%_, _<_}
 use native.Mathlib.Decide.{ℕ-discrete}
 use lib.Dec.{eqb}
-use borrow.Author.Tests.{eqb-false, eq-eqb, ne-eqb}
+use borrow.Author.Tests.{eq-eqb, ne-eqb}
 use Rattle.xor.specs.Xor.{_⊕_, xors, zero-l, self, byte, from₂}
 use Rattle.xor.specs.Sum.{keep, keep-zero}
 use Rattle.code.specs.Tile.{Cells, line, OneSum, On}
@@ -68,26 +68,23 @@ abbrev on : Line → ℕ → ℕ → Bool
 on (Row r) i j = eqb i r
 on (Column c) i j = eqb j c
 
-on-line : (b : Line) (i j : ℕ) → (On b i j ⊎ (on b i j ≡ false))
-on-line (Row r) i j = go (ℕ-discrete i r)
-  where
-    go : Dec (i ≡ r) → (i ≡ r) ⊎ (eqb i r ≡ false)
-    go (yes e) = inl e
-    go (no d) = inr (ne-eqb i r d)
-on-line (Column c) i j = go (ℕ-discrete j c)
-  where
-    go : Dec (j ≡ c) → (j ≡ c) ⊎ (eqb j c ≡ false)
-    go (yes e) = inl e
-    go (no d) = inr (ne-eqb j c d)
-
 off-line : (b : Line) (i j : ℕ) → (On b i j → ⊥) → on b i j ≡ false
-off-line b i j d = ⊎-elim (λ o. absurd (d o)) (λ e. e) (on-line b i j)
+off-line (Row r) i j d = ne-eqb i r d
+off-line (Column c) i j d = ne-eqb j c d
+
+on-line : (b : Line) (i j : ℕ) → Dec (On b i j)
+on-line (Row r) i j = ℕ-discrete i r
+on-line (Column c) i j = ℕ-discrete j c
 
 module _ (p l m : ℕ) (inverse : l * m % p ≡ 1) (A B : ℕ → ℕ) (c : ℕ) (hc : c < p) (b : Line) (hb : number b < p) where
   -- the sum left on a line through the column
   left-at : (s : ℕ) (S x : ℕ → ℕ) (i : ℕ) → i < p → left p s S c x (line p s i c) ≡ S (line p s i c) ⊕ x i
   left-at s S x i hi =
       ap (λ (y : ℕ). S (line p s i c) ⊕ y) (sum-column p s c i (along (Column c) x) (along-off p (Column c) x) hc hi ∙ along-nth (Column c) x i)
+
+  -- .. also where b crosses the column
+  left-crossing : (s : ℕ) (S x : ℕ → ℕ) (j : ℕ) → j < p → columnAt b j ≡ c → left p s S c x (through p s b j) ≡ S (through p s b j) ⊕ x (rowAt b j)
+  left-crossing s S x j hj e = rw e (left-at s S x (rowAt b j) (row-lt p b j hb hj))
 
   -- ---- what a change that settles all says of its column
 
@@ -119,13 +116,7 @@ module _ (p l m : ℕ) (inverse : l * m % p ≡ 1) (A B : ℕ → ℕ) (c : ℕ)
   -- so a filling needs that the sums agree where b crosses the column
   pub pair-crossing : (D : Cells) → Settles p l A B D → ZeroOffBoth p (Column c) b D → CrossingAgrees p l A B c b
   pair-crossing D g off j hj e =
-      from₂ (pair-agrees D g off j hj) (ap₂ _⊕_ (at 1 A) (at l B)) (simp xors)
-    where
-      i : ℕ
-      i = rowAt b j
-
-      at : (s : ℕ) (S : ℕ → ℕ) → left p s S c (own D) (through p s b j) ≡ S (through p s b j) ⊕ own D i
-      at s S = rw e (left-at s S (own D) i (row-lt p b j hb hj))
+      from₂ (pair-agrees D g off j hj) (ap₂ _⊕_ (left-crossing 1 A (own D) j hj e) (left-crossing l B (own D) j hj e)) (simp xors)
 
   module _ (n : ℕ) (walk stop : ℕ → ℕ) (hops : Hops p l c b n walk stop) where
     -- the sums that are left on the two lines of a hop
@@ -151,17 +142,11 @@ module _ (p l m : ℕ) (inverse : l * m % p ≡ 1) (A B : ℕ → ℕ) (c : ℕ)
     chain-agree : (x : ℕ → ℕ) → Chain n walk (hop p l A B c walk) x → CrossingAgrees p l A B c b → Agree p l (left p 1 A c x) (left p l B c x) b
     chain-agree x h m j hj = go (ℕ-discrete (columnAt b j) c)
       where
-        i : ℕ
-        i = rowAt b j
-
-        at : (s : ℕ) (S : ℕ → ℕ) → columnAt b j ≡ c → left p s S c x (through p s b j) ≡ S (through p s b j) ⊕ x i
-        at s S e = rw e (left-at s S x i (row-lt p b j hb hj))
-
         stopped : (k : ℕ) → k < n → left p 1 A c x (through p 1 b (stop k)) ≡ left p l B c x (through p l b (stop k))
         stopped k l = from₂ (h .next k l) (ap₂ _⊕_ (first-left x k) (second-left x k)) (simp xors)
 
         go : Dec (columnAt b j ≡ c) → left p 1 A c x (through p 1 b j) ≡ left p l B c x (through p l b j)
-        go (yes e) = from₂ (m j hj e) (ap₂ _⊕_ (at 1 A e) (at l B e)) (simp xors)
+        go (yes e) = from₂ (m j hj e) (ap₂ _⊕_ (left-crossing 1 A x j hj e) (left-crossing l B x j hj e)) (simp xors)
         go (no d) = let t = hops .stops j hj d in rw (t .2) at (stopped (t .0) (t .1))
 
     -- EXISTENCE: a chain in the column, with what it leaves to b, settles all
@@ -173,7 +158,7 @@ module _ (p l m : ℕ) (inverse : l * m % p ≡ 1) (A B : ℕ → ℕ) (c : ℕ)
 -- UNIQUENESS: a good tile that is zero outside one line is zero ..
 pub line-zero : (p l m : ℕ) (b : Line) (D : Cells) → l * m % p ≡ 1 → number b < p → OneSum p l D → Padded p D → ZeroOff p b D
     → (i j : ℕ) → i < p → j < p → D i j ≡ 0
-line-zero p l m b D inverse hb good padded off i j hi hj = ⊎-elim (λ o. at b on-b o) (λ e. off i j hi hj (not-on b e)) (on-line b i j)
+line-zero p l m b D inverse hb good padded off i j hi hj = go (on-line b i j)
   where
     on-b : (k : ℕ) → k < p → nth b D k ≡ 0
     on-b k hk = one-line-change p l m inverse (λ t. 0) (λ t. 0) b D hb (good-settles-zero p l D good) off padded k hk ∙ self 0
@@ -182,9 +167,9 @@ line-zero p l m b D inverse hb good padded off i j hi hj = ⊎-elim (λ o. at b 
     at (Row r) h e = rw e (h j hj)
     at (Column v) h e = rw e (h i hi)
 
-    not-on : (a : Line) → on a i j ≡ false → On a i j → ⊥
-    not-on (Row r) e o = eqb-false i r e o
-    not-on (Column v) e o = eqb-false j v e o
+    go : Dec (On b i j) → D i j ≡ 0
+    go (yes o) = at b on-b o
+    go (no d) = off i j hi hj d
 
 -- .. and so is one that is zero outside a column and a second line, where the hops pass all
 pub pair-zero : (p l m c : ℕ) (b : Line) (n : ℕ) (walk stop : ℕ → ℕ) (D : Cells) → l * m % p ≡ 1 → c < p → number b < p → Hops p l c b n walk stop

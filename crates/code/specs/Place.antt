@@ -90,10 +90,14 @@ pub tile-length : (p : ℕ) (T : Cells) → length (tileOf p T) ≡ tileLength p
 unfolding tileOf
 tile-length p T = tabulate-length (tileLength p) _
 
-pub tile-cells : (p : ℕ) (T : Cells) → Padded p T → Same p (cell p (tileOf p T)) T
+-- within the tile it has them, and if they are padded, everywhere
+pub tile-in : (p : ℕ) (T : Cells) (i j : ℕ) → i < p - 1 → j < p - 1 → cell p (tileOf p T) i j ≡ T i j
 unfolding tileOf place
-tile-cells p T h = same-within p (cell p (tileOf p T)) T (cell-padded p (tileOf p T)) h (λ i j hi hj.
-    cell-in p (tileOf p T) i j hi hj ∙ tabulate-at (tileLength p) (place p i j) _ (place-lt p i j hi hj) ∙ ap₂ T (digits-div i hj) (digits-mod i hj))
+tile-in p T i j hi hj =
+    cell-in p (tileOf p T) i j hi hj ∙ tabulate-at (tileLength p) (place p i j) _ (place-lt p i j hi hj) ∙ ap₂ T (digits-div i hj) (digits-mod i hj)
+
+pub tile-cells : (p : ℕ) (T : Cells) → Padded p T → Same p (cell p (tileOf p T)) T
+tile-cells p T h = same-within p (cell p (tileOf p T)) T (cell-padded p (tileOf p T)) h (tile-in p T)
 
 pub tile-bytes : (p : ℕ) (T : Cells) → ((i j : ℕ) → T i j < 256) → Bytes (tileOf p T)
 unfolding tileOf
@@ -105,14 +109,18 @@ pub text-length : (p : ℕ) (tile : List ℕ) → length (textOf p tile) ≡ tex
 unfolding textOf
 text-length p tile = tabulate-length (textLength p) _
 
+-- the byte of a text in row i and column j
+abbrev pub textByte : ℕ → List ℕ → ℕ → ℕ → ℕ
+textByte p text i j = getD text (i * (p - 3) + j) 0
+
 -- a text's byte in row i and column j is the tile's
-pub text-at : (p : ℕ) (tile : List ℕ) (i j : ℕ) → i < p - 1 → j < p - 3 → getD (textOf p tile) (i * (p - 3) + j) 0 ≡ cell p tile i j
+pub text-at : (p : ℕ) (tile : List ℕ) (i j : ℕ) → i < p - 1 → j < p - 3 → textByte p (textOf p tile) i j ≡ cell p tile i j
 unfolding textOf
 text-at p tile i j hi hj =
     tabulate-at (textLength p) (i * (p - 3) + j) _ (row-lt (p - 1) (p - 3) i j hi hj) ∙ ap₂ (cell p tile) (digits-div i hj) (digits-mod i hj)
 
 -- the text of a tile is the list with its bytes
 pub text-is : (p : ℕ) (tile text : List ℕ) → 3 < p → length text ≡ textLength p
-    → ((i j : ℕ) → i < p - 1 → j < p - 3 → getD text (i * (p - 3) + j) 0 ≡ cell p tile i j) → textOf p tile ≡ text
+    → ((i j : ℕ) → i < p - 1 → j < p - 3 → textByte p text i j ≡ cell p tile i j) → textOf p tile ≡ text
 text-is p tile text h e same =
     by-rows (p - 1) (p - 3) (textOf p tile) text (omega arith) (text-length p tile) e (λ i j hi hj. text-at p tile i j hi hj ∙ sym (same i j hi hj))

@@ -10,7 +10,7 @@ use native.Mathlib.Omega.{arith}
 use lib.Dec.{eqb}
 use borrow.Author.Tests.{eqb-true, eq-eqb}
 use Rattle.xor.specs.Xor.{_⊕_, zero-l}
-use Rattle.xor.specs.Sum.{xorBelow, keep, keep-xor, keep-byte, bytes, ext, zeros, split, swap, single, one, at′, odd}
+use Rattle.xor.specs.Sum.{xorBelow, keep, keep-xor, keep-byte, bytes, ext, zeros, split, swap, single, one, at, odd}
 use Rattle.residue.specs.Prime.{Prime, prime-odd}
 use Rattle.residue.specs.Remainder.{same-step, before, before-lt, before-step}
 use Rattle.code.specs.Tile.{Cells, line, sum, OneSum}
@@ -50,7 +50,7 @@ pub total : (p s : ℕ) (T : Cells) → xorBelow p (sum p s T) ≡ xorBelow p (�
 unfolding sum
 total p s T =
     swap p p _
-    ∙ ext p _ _ (λ i l. swap p p _ ∙ ext p _ _ (λ j m. at′ p (line p s i j) (λ t. T i j) (mod-lt (i + s * j) (omega arith))))
+    ∙ ext p _ _ (λ i l. swap p p _ ∙ ext p _ _ (λ j m. at p (line p s i j) (λ t. T i j) (mod-lt (i + s * j) (omega arith))))
 
 pub totals : (p s s′ : ℕ) (T : Cells) → xorBelow p (sum p s T) ≡ xorBelow p (sum p s′ T)
 totals p s s′ T = total p s T ∙ sym (total p s′ T)

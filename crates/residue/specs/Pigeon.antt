@@ -1,4 +1,4 @@
--- The pigeonhole laws: no list of n numbers covers m > n, none without repeats fits below m < n, and n without repeats below n cover it.
+-- The pigeonhole laws: no list of n numbers covers m > n, none without repeats fits below m < n, and n without repeats below n cover it; and n that cover it have no repeats.
 -- Each takes the last number v away and closes the gap that it leaves. Assumes nothing.
 use mathlib.Core.Path.{_≡_, ap, sym, _∙_}
 use mathlib.Core.Logic.{_⊎_, inl, inr, _≢_, ⊎-elim}
@@ -20,6 +20,7 @@ back v x h = omega arith
 apart : (v a b : ℕ) → a ≢ v → b ≢ v → a ≢ b → squeeze v a ≢ squeeze v b
 apart v a b ha hb d e = d (sym (back v a ha) ∙ ap (stretch v) e ∙ back v b hb)
 
+-- n numbers do not cover all below a larger m
 pub no-onto : (n m : ℕ) (f : ℕ → ℕ) → n < m → ((r : ℕ) → r < m → (k : ℕ) × (k < n) × (f k ≡ r)) → ⊥
 no-onto zero m f h g = not-suc-le-zero (g 0 h .1)
 no-onto (suc n) zero f h g = not-suc-le-zero h
@@ -33,6 +34,7 @@ no-onto (suc n) (suc m) f h g =
         pick (inl e) = absurd (omega (arith, t .2, ap f e))
         pick (inr lt) = (t .0, lt, omega (arith, t .2))
 
+-- n different numbers are not all below a smaller m
 pub no-into : (n m : ℕ) (f : ℕ → ℕ) → m < n → ((k : ℕ) → k < n → f k < m) → ((j k : ℕ) → j < k → k < n → f j ≢ f k) → ⊥
 no-into zero m f h b d = not-suc-le-zero h
 no-into (suc n) zero f h b d = not-suc-le-zero (b 0 h)
@@ -41,6 +43,7 @@ no-into (suc n) (suc m) f h b d =
     (λ k lt. omega (arith, b k (le-step lt), b n (lt-suc-self n), d k n lt (lt-suc-self n)))
     (λ j k jk kn. apart (f n) (f j) (f k) (d j n (lt-trans jk kn) (lt-suc-self n)) (d k n kn (lt-suc-self n)) (d j k jk (le-step kn)))
 
+-- one of n numbers is r, or none is
 find : (f : ℕ → ℕ) (r n : ℕ) → ((k : ℕ) × (k < n) × (f k ≡ r)) ⊎ ((k : ℕ) → k < n → f k ≢ r)
 find f r zero = inr (λ k h e. not-suc-le-zero h)
 find f r (suc n) = go (ℕ-discrete (f n) r) (find f r n)
@@ -50,6 +53,7 @@ find f r (suc n) = go (ℕ-discrete (f n) r) (find f r n)
     go (no ne) (inl t) = inl (t .0, le-step (t .1), t .2)
     go (no ne) (inr none) = inr (λ k h e. ⊎-elim (λ q. ne (sym (ap f q) ∙ e)) (λ lt. none k lt e) (eq-or-lt-of-le (le-of-suc-le-suc h)))
 
+-- n different numbers below n cover all below n
 pub onto : (n : ℕ) (f : ℕ → ℕ) → ((k : ℕ) → k < n → f k < n) → ((j k : ℕ) → j < k → k < n → f j ≢ f k) → (r : ℕ) → r < n → (k : ℕ) × (k < n) × (f k ≡ r)
 onto n f b d r h = go (find f r n)
   where

@@ -27,6 +27,7 @@ NoReturn p l = (k : ℕ) → 0 < k → k < p - 1 → (l ^ k) % p ≢ 1
 abbrev pub spun : ℕ → ℕ → ℕ → ℕ → ℕ
 spun p l o k = (l ^ k * o) % p
 
+-- the first is o, and each is l times the one before
 pub spun-first : (p l o : ℕ) → o < p → spun p l o 0 ≡ o
 spun-first p l o h = same p (ap (λ (x : ℕ). x * o) (pow-zero l) ∙ one-mul o) ∙ mod-eq-of-lt h
 
@@ -52,6 +53,7 @@ module _ (p l : ℕ) (P : Prime p) where
       let zero? : (l * l ^ k) % p ≡ 0 = same p (sym (pow-succ' l k)) ∙ omega arith in
       ⊎-elim (λ z. omega arith) (λ z. omega (arith, power-pos h k)) (euclid P l (l ^ k) zero?))
 
+  -- .. and none of those numbers is
   pub spun-pos : 0 < l % p → (o : ℕ) → 0 < o % p → (k : ℕ) → 0 < spun p l o k
   spun-pos h o ho k = by-contra 1 _ (λ none.
       let zero? : spun p l o k ≡ 0 = omega arith in
@@ -63,6 +65,7 @@ module _ (p l : ℕ) (P : Prime p) where
       let sum : k ≡ j + (k - j) = omega arith in
       sym (mul-cancel P (l ^ j) 1 (l ^ (k - j)) (power-pos h j) (same p (mul-one _) ∙ e ∙ same p (ap (λ (x : ℕ). l ^ x) sum ∙ pow-add l j (k - j)))) ∙ one
 
+  -- the powers reach all exactly if none but the first is 1
   pub no-return-reaches : 0 < l % p → NoReturn p l → ReachesAll p l
   no-return-reaches h none r hr lt =
       let t = onto (p - 1) (λ k. (l ^ k) % p - 1) (λ k kn. omega (arith, power-pos h k, mod-lt (l ^ k) {m = p} (omega arith)))

@@ -74,10 +74,6 @@ module _ {p : ℕ} (P : Prime p) where
       step : (k * d) % p ≡ x % p
       step = mod-mul-mod p (x * e) d ∙ same p (omega arith) ∙ undo p d e x (t .2)
 
-  -- .. and come back
-  pub closes : (c d : ℕ) → (c + p * d) % p ≡ (c + 0 * d) % p
-  closes c d = alike p _ _ 0 d (omega arith)
-
-  -- .. once
+  -- .. once. (`steps-close`: and the p-th is the first again)
   pub once : (c d k j : ℕ) → 0 < d % p → k < p → j < p → (c + k * d) % p ≡ (c + j * d) % p → k ≡ j
   once c d k j h hk hj e = below p k j hk hj (mul-cancel d k j h (add-cancel p (d * k) (d * j) c (same p (omega arith) ∙ e ∙ same p (omega arith))))

@@ -43,6 +43,10 @@ module _ (p : ℕ) where
   pub inverse-cancel : (a e b c : ℕ) → (a * e) % p ≡ 1 → (a * b) % p ≡ (a * c) % p → b % p ≡ c % p
   inverse-cancel a e b c h k = sym (undo a e b h) ∙ mul-alike _ _ e k ∙ undo a e c h
 
+-- p steps of d come back to where they began
+pub steps-close : (p c d : ℕ) → (c + p * d) % p ≡ (c + 0 * d) % p
+steps-close p c d = alike p _ _ 0 d (omega arith)
+
 -- numbers below p that are alike are equal
 pub below : (p a b : ℕ) → a < p → b < p → a % p ≡ b % p → a ≡ b
 below p a b h k e = sym (mod-eq-of-lt h) ∙ e ∙ mod-eq-of-lt k
@@ -66,6 +70,7 @@ before-step p k t h =
     let r : k % p < p = mod-lt k (omega arith) in
     mod-add-mod (t + (p - k % p)) p k ∙ alike p _ t 0 (1 + k / p) (omega (arith, div-add-mod' k p)) ∙ mod-eq-of-lt h
 
+-- .. and back
 pub step-before : (p k i : ℕ) → i < p → before p k ((i + k) % p) ≡ i
 step-before p k i h =
     let pos : 0 < p = omega arith in

@@ -10,6 +10,7 @@ use lib.Dec.{eqb}
 use borrow.Author.Tests.{eqb-true, eq-eqb}
 use Rattle.xor.specs.Xor.{_⊕_, xors, four, zero-l, zero-r, byte}
 
+-- f 0 ⊕ .. ⊕ f (n - 1), and 0 for n = 0
 unfoldable pub xorBelow : ℕ → (ℕ → ℕ) → ℕ
 xorBelow zero f = 0
 xorBelow (suc n) f = xorBelow n f ⊕ f n
@@ -43,21 +44,25 @@ pub keep-byte : (t : Bool) (x : ℕ) → x < 256 → keep t x < 256
 keep-byte true x h = h
 keep-byte false x h = zero-lt-suc 255
 
+-- a sum depends on its terms alone
 pub ext : (n : ℕ) (f g : ℕ → ℕ) → ((i : ℕ) → i < n → f i ≡ g i) → xorBelow n f ≡ xorBelow n g
 unfolding xorBelow
 ext zero f g h = refl
 ext (suc n) f g h = ap₂ _⊕_ (ext n f g (λ i l. h i (le-step l))) (h n (lt-suc-self n))
 
+-- zeros add up to zero
 pub zeros : (n : ℕ) (f : ℕ → ℕ) → ((i : ℕ) → i < n → f i ≡ 0) → xorBelow n f ≡ 0
 unfolding xorBelow
 zeros zero f h = refl
 zeros (suc n) f h = rw (zeros n f (λ i l. h i (le-step l)), h n (lt-suc-self n), zero-l)
 
+-- the sum of f ⊕ g is that of f and that of g
 pub split : (n : ℕ) (f g : ℕ → ℕ) → xorBelow n (λ i. f i ⊕ g i) ≡ xorBelow n f ⊕ xorBelow n g
 unfolding xorBelow
 split zero f g = sym (zero-l 0)
 split (suc n) f g = ap (λ (x : ℕ). x ⊕ (f n ⊕ g n)) (split n f g) ∙ four (xorBelow n f) (xorBelow n g) (f n) (g n)
 
+-- by rows or by columns, a double sum is the same
 pub swap : (n m : ℕ) (f : ℕ → ℕ → ℕ) → xorBelow n (λ i. xorBelow m (f i)) ≡ xorBelow m (λ j. xorBelow n (λ i. f i j))
 unfolding xorBelow
 swap zero m f = sym (zeros m (λ j. 0) (λ j l. refl))
@@ -85,11 +90,9 @@ one n k t f l e u = single n k (λ i. keep (t i) (f i)) l other ∙ rw e
     other : (i : ℕ) → i < n → i ≢ k → keep (t i) (f i) ≡ 0
     other i q d = off (t i) i (u i q) d
 
-pub at : (n k : ℕ) (f : ℕ → ℕ) → k < n → xorBelow n (λ i. keep (eqb i k) (f i)) ≡ f k
-at n k f l = one n k (λ i. eqb i k) f l (eq-eqb k k refl) (λ i q e. eqb-true i k e)
-
-pub at′ : (n k : ℕ) (f : ℕ → ℕ) → k < n → xorBelow n (λ i. keep (eqb k i) (f i)) ≡ f k
-at′ n k f l = one n k (λ i. eqb k i) f l (eq-eqb k k refl) (λ i q e. sym (eqb-true k i e))
+-- .. the test for k itself
+pub at : (n k : ℕ) (f : ℕ → ℕ) → k < n → xorBelow n (λ i. keep (eqb k i) (f i)) ≡ f k
+at n k f l = one n k (λ i. eqb k i) f l (eq-eqb k k refl) (λ i q e. sym (eqb-true k i e))
 
 -- σ maps the numbers below n to themselves, and τ takes it back
 pub record Turns (n : ℕ) (σ τ : ℕ → ℕ) : Type 0 where
@@ -98,14 +101,16 @@ pub record Turns (n : ℕ) (σ τ : ℕ → ℕ) : Type 0 where
   pub left : (i : ℕ) → i < n → τ (σ i) ≡ i
   pub right : (i : ℕ) → i < n → σ (τ i) ≡ i
 
+-- so the order of the terms does not matter
 pub reindex : (n : ℕ) (σ τ f : ℕ → ℕ) → Turns n σ τ → xorBelow n (λ i. f (σ i)) ≡ xorBelow n f
 reindex n σ τ f w =
-    ext n (λ i. f (σ i)) (λ i. xorBelow n (λ k. keep (eqb k (σ i)) (f k))) (λ i l. sym (at n (σ i) f (w .there i l)))
-    ∙ swap n n (λ i k. keep (eqb k (σ i)) (f k))
-    ∙ ext n (λ k. xorBelow n (λ i. keep (eqb k (σ i)) (f k))) f (λ k l.
-    one n (τ k) (λ i. eqb k (σ i)) (λ i. f k) (w .back k l) (eq-eqb k (σ (τ k)) (sym (w .right k l)))
-    (λ i q e. sym (w .left i q) ∙ ap τ (sym (eqb-true k (σ i) e))))
+    ext n (λ i. f (σ i)) (λ i. xorBelow n (λ k. keep (eqb (σ i) k) (f k))) (λ i l. sym (at n (σ i) f (w .there i l)))
+    ∙ swap n n (λ i k. keep (eqb (σ i) k) (f k))
+    ∙ ext n (λ k. xorBelow n (λ i. keep (eqb (σ i) k) (f k))) f (λ k l.
+    one n (τ k) (λ i. eqb (σ i) k) (λ i. f k) (w .back k l) (eq-eqb (σ (τ k)) k (w .right k l))
+    (λ i q e. sym (w .left i q) ∙ ap τ (eqb-true (σ i) k e)))
 
+-- a sum of bytes is a byte
 pub bytes : (n : ℕ) (f : ℕ → ℕ) → ((i : ℕ) → i < n → f i < 256) → xorBelow n f < 256
 unfolding xorBelow
 bytes zero f h = zero-lt-suc 255
