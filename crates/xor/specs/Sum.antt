@@ -40,6 +40,11 @@ pub keep-zero : (t : Bool) → keep t 0 ≡ 0
 keep-zero true = refl
 keep-zero false = refl
 
+-- two tests, in either order
+pub keep-comm : (s t : Bool) (x : ℕ) → keep s (keep t x) ≡ keep t (keep s x)
+keep-comm true t x = refl
+keep-comm false t x = sym (keep-zero t)
+
 pub keep-byte : (t : Bool) (x : ℕ) → x < 256 → keep t x < 256
 keep-byte true x h = h
 keep-byte false x h = zero-lt-suc 255
