@@ -69,6 +69,7 @@ columns-hops p l u v d P low high hu hv apart step = record {
   stops = λ j hj o.
       let t = meets P (p - 1) d (before p (1 * u) (line p 1 j v)) d-pos (before-lt p (1 * u) (line p 1 j v) pos) in
       (t .0, t .1, ap (λ (i : ℕ). before p (1 * v) (line p 1 i u)) (t .2) ∙ ap (before p (1 * v)) (before-step p (1 * u) (line p 1 j v) (mod-lt _ pos)) ∙ step-before p (1 * v) j hj);
+  clear = λ k e. apart (sym e);
 }
   where
     pos : 0 < p

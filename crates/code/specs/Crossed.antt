@@ -86,6 +86,13 @@ module _ (p l s t : ℕ) (P : Prime p) (pos-l : 0 < l % p) (all : ReachesAll p l
     second = λ k. along-row l (offset p l s k) ∙ sym (column-second k);
     rows = λ i hi d. passed s i (omega arith) hi d;
     stops = λ j hj d. passed t j ht hj d;
+    clear = λ k e.
+        omega (
+          arith,
+          spun-pos p l P pos-l (p - 1 - s) begin k,
+          below p (offset p l s k) 0 (mod-lt _ pos) pos
+              (cancel-left p t (offset p l s k) 0 (e ∙ sym (mod-eq-of-lt ht) ∙ same p (omega arith))),
+        );
   }
 
   -- the terms at all offsets but 0, and that at 0

@@ -99,6 +99,10 @@ columns-settled p l u v A B S hu hv apart e =
     chained p l u (Column v) A B p (rowBy p d) (stopBy p d u v) S
     (columns-closing p l u v d A B S (omega arith) (omega arith) apart (stride-is p l u v (omega arith)) e) hu hv
 
+-- the sums of the turned tile have the same total
+pub turned-total : (p l : ℕ) (B : ℕ → ℕ) → Slope p l → xorBelow p (λ t. B (l * t % p)) ≡ xorBelow p B
+turned-total p l B S = ext p _ _ (λ k h. ap B (same p (omega arith))) ∙ stepped p l 0 B (S .prime) (slope-pos p l S)
+
 -- rows are columns of the turned tile
 pub rows-settled : (p l r s : ℕ) (A B : ℕ → ℕ) → Slope p l → r < p - 1 → s < p - 1 → r ≢ s → xorBelow p A ≡ xorBelow p B
     → Settled p l (Row r) (Row s) A B
@@ -116,11 +120,8 @@ rows-settled p l r s A B S hr hs apart e = record {
     m : ℕ
     m = i .0
 
-    turned-total : xorBelow p (λ k. B (l * k % p)) ≡ xorBelow p B
-    turned-total = ext p _ _ (λ k h. ap B (same p (omega arith))) ∙ stepped p l 0 B (S .prime) (slope-pos p l S)
-
     t : Settled p m (Column r) (Column s) A (λ k. B (l * k % p))
-    t = columns-settled p m r s A (λ k. B (l * k % p)) (i .2) hr hs apart (e ∙ sym turned-total)
+    t = columns-settled p m r s A (λ k. B (l * k % p)) (i .2) hr hs apart (e ∙ sym (turned-total p l B S))
 
 pub crossed-settled : (p l s t : ℕ) (A B : ℕ → ℕ) → Slope p l → ReachesAll p l → s < p - 1 → t < p - 1 → xorBelow p A ≡ xorBelow p B
     → A (line p 1 s t) ≡ B (line p l s t) → Settled p l (Column t) (Row s) A B

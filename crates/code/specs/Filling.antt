@@ -54,11 +54,11 @@ module _ (p l : ℕ) (a b : Line) (x : List ℕ) where
       sum-bytes h s k = sum-byte p s k (cell p x) (cell-byte p x h)
 
   -- the change that a filling makes is the difference of the two tiles
-  filled-settles : (y : List ℕ) → Fills p l a b x y → Settles p l (sum p 1 (cell p x)) (sum p l (cell p x)) (difference p x y)
+  pub filled-settles : (y : List ℕ) → Fills p l a b x y → Settles p l (sum p 1 (cell p x)) (sum p l (cell p x)) (difference p x y)
   filled-settles y f =
       good-settles p l (cell p x) (difference p x y) (one-sum-ext p l (cell p y) (plus (cell p x) (difference p x y)) (λ i j hi hj. sym (again _ _)) (f .good))
 
-  filled-off : (y : List ℕ) → Fills p l a b x y → ZeroOffBoth p a b (difference p x y)
+  pub filled-off : (y : List ℕ) → Fills p l a b x y → ZeroOffBoth p a b (difference p x y)
   filled-off y f = within-off p a b (difference p x y) (difference-padded p x y)
       (λ i j hi hj d e. ap (λ (z : ℕ). z ⊕ cell p y i j) (f .agrees i j hi hj d e) ∙ self _)
 
@@ -95,16 +95,19 @@ crossed-filled p l s t x S all hs ht = (
 pub fills-either : (p l : ℕ) (a b : Line) (x y : List ℕ) → Fills p l a b x y → Fills p l b a x y
 fills-either p l a b x y f = record { size = f .size; good = f .good; agrees = λ i j hi hj d e. f .agrees i j hi hj e d }
 
--- one line alone has a filling exactly if the sums agree along it ..
+-- one line alone has a filling only if the sums agree along it ..
+pub line-agrees : (p l : ℕ) (a : Line) (x y : List ℕ) → Slope p l → number a < p - 1 → Fills p l a a x y
+    → Agree p l (sum p 1 (cell p x)) (sum p l (cell p x)) a
+line-agrees p l a x y S h f =
+    let i = slope-inverse p l S in
+    one-line-agrees p l (i .0) (i .1) _ _ a (difference p x y) (omega arith) (filled-settles p l a a x y f) (line-off p l a x y f)
+
+-- .. and exactly if they do
 pub line-filled : (p l : ℕ) (a : Line) (x : List ℕ) → Slope p l → number a < p - 1
     → Filled p l a a x ↔ Agree p l (sum p 1 (cell p x)) (sum p l (cell p x)) a
-line-filled p l a x S h = (
-  λ f. let i = slope-inverse p l S in
-      one-line-agrees p l (i .0) (i .1) _ _ a (difference p x (f .0)) (omega arith) (filled-settles p l a a x (f .0) (f .1)) (line-off p l a x (f .0) (f .1)),
-  λ e. settled-filled p l a a x (line-settled p l a _ _ S h e),
-)
+line-filled p l a x S h = (λ f. line-agrees p l a x (f .0) S h (f .1), λ e. settled-filled p l a a x (line-settled p l a _ _ S h e))
 
--- .. and its difference from the tile is the shifted sum, with the common byte taken off
+-- its difference from the tile is then the shifted sum, with the common byte taken off
 pub line-difference : (p l : ℕ) (a : Line) (x y : List ℕ) → Slope p l → number a < p - 1 → Fills p l a a x y
     → (k : ℕ) → k < p → nth a (difference p x y) k ≡ shifted p (sum p 1 (cell p x)) a k
 line-difference p l a x y S h f =

@@ -18,4 +18,3 @@ pub mod Distance
 pub mod Existence
 pub mod Filling
 pub mod Writing
-pub mod Worked

@@ -63,6 +63,10 @@ pub along-nth : (a : Line) (x : ℕ → ℕ) (k : ℕ) → nth a (along a x) k �
 along-nth (Row r) x k = rw (eq-eqb r r refl)
 along-nth (Column c) x k = rw (eq-eqb c c refl)
 
+pub along-ext : (p : ℕ) (a : Line) (x y : ℕ → ℕ) → ((k : ℕ) → k < p → x k ≡ y k) → (i j : ℕ) → i < p → j < p → along a x i j ≡ along a y i j
+along-ext p (Row r) x y h i j hi hj = ap (keep (eqb i r)) (h j hj)
+along-ext p (Column c) x y h i j hi hj = ap (keep (eqb j c)) (h i hi)
+
 pub along-padded : (p : ℕ) (a : Line) (x : ℕ → ℕ) → number a < p - 1 → x (p - 1) ≡ 0 → Padded p (along a x)
 along-padded p (Row r) x h e = record { row = λ j q. rw (ne-eqb (p - 1) r (omega arith)); column = λ i q. rw (e, keep-zero) }
 along-padded p (Column c) x h e = record { row = λ j q. rw (e, keep-zero); column = λ i q. rw (ne-eqb (p - 1) c (omega arith)) }
@@ -115,10 +119,10 @@ module _ (p l m : ℕ) (inverse : l * m % p ≡ 1) (A B : ℕ → ℕ) where
   abbrev B′ : ℕ → ℕ
   B′ t = B (l * t % p)
 
-  first-turned : (r k : ℕ) → A (line p 1 k r) ≡ A (line p 1 r k)
+  pub first-turned : (r k : ℕ) → A (line p 1 k r) ≡ A (line p 1 r k)
   first-turned r k = ap (λ (x : ℕ). A (x % p)) (omega arith)
 
-  second-turned : (r k : ℕ) → B′ (line p m k r) ≡ B (line p l r k)
+  pub second-turned : (r k : ℕ) → B′ (line p m k r) ≡ B (line p l r k)
   second-turned r k = ap B (turned-line p l m inverse k r)
 
   pub one-line-agrees : (a : Line) (D : Cells) → number a < p → Settles p l A B D → ZeroOff p a D → Agree p l A B a

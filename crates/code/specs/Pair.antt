@@ -41,6 +41,8 @@ pub record Hops (p l c : ℕ) (b : Line) (n : ℕ) (walk stop : ℕ → ℕ) : T
   -- what is passed
   pub rows : (i : ℕ) → i < p → (On b i c → ⊥) → (k : ℕ) × (k < n) × (walk k ≡ i)
   pub stops : (j : ℕ) → j < p → columnAt b j ≢ c → (k : ℕ) × (k < n) × (stop k ≡ j)
+  -- no stop is in the crossing
+  pub clear : (k : ℕ) → columnAt b (stop k) ≢ c
 
 -- what a step of the chain adds: the two sums along the hop
 abbrev pub hop : ℕ → ℕ → (ℕ → ℕ) → (ℕ → ℕ) → ℕ → (ℕ → ℕ) → ℕ → ℕ
@@ -83,7 +85,7 @@ module _ (p l m : ℕ) (inverse : l * m % p ≡ 1) (A B : ℕ → ℕ) (c : ℕ)
       ap (λ (y : ℕ). S (line p s i c) ⊕ y) (sum-column p s c i (along (Column c) x) (along-off p (Column c) x) hc hi ∙ along-nth (Column c) x i)
 
   -- .. also where b crosses the column
-  left-crossing : (s : ℕ) (S x : ℕ → ℕ) (j : ℕ) → j < p → columnAt b j ≡ c → left p s S c x (through p s b j) ≡ S (through p s b j) ⊕ x (rowAt b j)
+  pub left-crossing : (s : ℕ) (S x : ℕ → ℕ) (j : ℕ) → j < p → columnAt b j ≡ c → left p s S c x (through p s b j) ≡ S (through p s b j) ⊕ x (rowAt b j)
   left-crossing s S x j hj e = rw e (left-at s S x (rowAt b j) (row-lt p b j hb hj))
 
   -- ---- what a change that settles all says of its column
@@ -120,7 +122,7 @@ module _ (p l m : ℕ) (inverse : l * m % p ≡ 1) (A B : ℕ → ℕ) (c : ℕ)
 
   module _ (n : ℕ) (walk stop : ℕ → ℕ) (hops : Hops p l c b n walk stop) where
     -- the sums that are left on the two lines of a hop
-    first-left : (x : ℕ → ℕ) (k : ℕ) → left p 1 A c x (through p 1 b (stop k)) ≡ A (line p 1 (walk k) c) ⊕ x (walk k)
+    pub first-left : (x : ℕ → ℕ) (k : ℕ) → left p 1 A c x (through p 1 b (stop k)) ≡ A (line p 1 (walk k) c) ⊕ x (walk k)
     first-left x k = rw (hops .first k) (left-at 1 A x (walk k) (hops .row k))
 
     second-left : (x : ℕ → ℕ) (k : ℕ) → left p l B c x (through p l b (stop k)) ≡ B (line p l (walk (k + 1)) c) ⊕ x (walk (k + 1))

@@ -1,6 +1,6 @@
 -- A list of bytes and its cells determine each other, and so do a text and the cells of its columns. Here alone a law knows how a tile
 -- or a text is laid out in memory. Assumes nothing.
-use mathlib.Core.Path.{_≡_, sym, ap₂, _∙_}
+use mathlib.Core.Path.{_≡_, refl, sym, ap, ap₂, _∙_}
 use mathlib.Core.Logic.{_⊎_, inl, inr}
 use mathlib.Core.List.{List}
 use Prim.Native.Nat.{ℕ, suc, _+_, _-_, _*_, _/_, _%_, _<_}
@@ -18,9 +18,11 @@ use Rattle.code.specs.Sums.{Padded, Same, plus, padded-plus}
 
 -- ---- n rows of w bytes, row by row
 
-row-lt : (n w i j : ℕ) → i < n → j < w → i * w + j < n * w
+-- a byte of a row stands within them
+pub row-lt : (n w i j : ℕ) → i < n → j < w → i * w + j < n * w
 row-lt n w i j hi hj = omega (arith, mul-le-mul-right w hi)
 
+-- and each byte within them in a row
 row-of : (n w k : ℕ) → 0 < w → k < n * w → k / w < n
 row-of n w k h l = div-lt-iff-lt-mul h .1 l
 
@@ -40,6 +42,19 @@ cell-in p tile i j hi hj = rw (lt-ltb i (p - 1) hi, lt-ltb j (p - 1) hj)
 pub place-lt : (p i j : ℕ) → i < p - 1 → j < p - 1 → place p i j < tileLength p
 unfolding place
 place-lt p i j hi hj = row-lt (p - 1) (p - 1) i j hi hj
+
+-- where it stands, in numbers
+pub place-is : (p i j : ℕ) → place p i j ≡ i * (p - 1) + j
+unfolding place
+place-is p i j = refl
+
+-- at one place stands one cell
+pub place-one : (p i j i′ j′ : ℕ) → j < p - 1 → j′ < p - 1 → place p i j ≡ place p i′ j′ → (i ≡ i′) × (j ≡ j′)
+unfolding place
+place-one p i j i′ j′ h h′ e = (
+  sym (digits-div i h) ∙ ap (λ (k : ℕ). k / (p - 1)) e ∙ digits-div i′ h′,
+  sym (digits-mod i h) ∙ ap (λ (k : ℕ). k % (p - 1)) e ∙ digits-mod i′ h′,
+)
 
 -- the added row and column are zeros
 pub cell-padded : (p : ℕ) (tile : List ℕ) → Padded p (cell p tile)

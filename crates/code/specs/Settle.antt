@@ -41,6 +41,15 @@ settles-ext p l A B D E h g = record {
   second = λ t q. ap (λ (x : ℕ). B t ⊕ x) (sym (sum-ext p l t D E h)) ∙ g .second t q;
 }
 
+-- only the sums of the lines 0 to p-1 count
+pub settles-sums : (p l : ℕ) (A B A′ B′ : ℕ → ℕ) (D : Cells) → ((t : ℕ) → t < p → A t ≡ A′ t) → ((t : ℕ) → t < p → B t ≡ B′ t)
+    → Settles p l A B D → Settles p l A′ B′ D
+settles-sums p l A B A′ B′ D a b g = record {
+  common = g .common;
+  first = λ t q. ap (λ (x : ℕ). x ⊕ sum p 1 D t) (sym (a t q)) ∙ g .first t q;
+  second = λ t q. ap (λ (x : ℕ). x ⊕ sum p l D t) (sym (b t q)) ∙ g .second t q;
+}
+
 -- two changes one after the other: E settles what D leaves exactly if D with E added settles all
 pub settles-plus : (p l : ℕ) (A B : ℕ → ℕ) (D E : Cells) → Settles p l (after p 1 A D) (after p l B D) E → Settles p l A B (plus D E)
 settles-plus p l A B D E g = record {

@@ -51,7 +51,7 @@ house-told-once p a b (given s h) (no-size f) = absurd (f s)
 house-told-once p a b (no-size f) (given s h) = absurd (f s)
 house-told-once p a b (no-size f) (no-size g) = refl
 
-judged-told-once : (p l : ℕ) (a b : Said) → Judged p l a → Judged p l b → a ≡ b
+pub judged-told-once : (p l : ℕ) (a b : Said) → Judged p l a → Judged p l b → a ≡ b
 judged-told-once p l a b (taken s t) (taken s' t') = refl
 judged-told-once p l a b (taken s t) (no-size f) = absurd (f s)
 judged-told-once p l a b (taken s t) (no-slope s' f) = absurd (f t)

@@ -13,7 +13,7 @@ use Rattle.size.specs.SizeTest.{sizeOk, size-sound, size-complete}
 use Rattle.size.specs.SlopeTest.{clear, slopeOk, slope-sound, slope-complete}
 
 -- what the tests decide: which are sizes ..
-size-5 : Size 5
+pub size-5 : Size 5
 unfolding sizeOk upTo
 size-5 = size-sound 5 tt
 
@@ -38,7 +38,7 @@ unfolding sizeOk upTo
 no-size-258 = size-complete 258
 
 -- .. and which slopes they allow
-at-5-2 : Allowed 5 2
+pub at-5-2 : Allowed 5 2
 unfolding slopeOk clear
 at-5-2 = slope-sound 5 2 (size-5 .prime) tt
 
