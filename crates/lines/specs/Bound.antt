@@ -1,0 +1,6 @@
+-- The bound on products that keeps the engine's numbers small. Assumes nothing.
+use Prim.Native.Nat.{ℕ, _*_, _≤_}
+use native.Mathlib.Nat.{mul-le-mul}
+
+pub product : (a b : ℕ) → a ≤ 257 → b ≤ 257 → a * b ≤ 66049
+product a b h k = mul-le-mul h k

@@ -1,0 +1,52 @@
+-- What the engine's arrays hold, and what it asks of a tile. Assumes nothing.
+use mathlib.Core.Path.{_≡_, refl, sym}
+use mathlib.Core.List.{List}
+use Prim.Native.Nat.{ℕ, zero, suc, _+_, _%_, _≤_, _<_}
+use native.Mathlib.Decide.{ℕ-discrete}
+use lib.Bits.{bitXor}
+use lib.Dec.{eqb}
+use lib.ListN.{length, getD, set, replicate}
+use lib.Seq.{getD-set-same, getD-set-other}
+use borrow.Author.Tests.{eq-eqb, ne-eqb}
+use Rattle.xor.specs.Xor.{_⊕_, ⊕-is, zero-r}
+use Rattle.xor.specs.Sum.{keep}
+use Rattle.code.specs.Tile.{Cells, tileLength, sum}
+
+-- what an array or a slice holds, place by place
+abbrev pub held : List ℕ → ℕ → ℕ
+held xs k = getD xs k 0
+
+-- a tile of n bytes, and a slope along which its lines are summed
+pub record Shape (p s n : ℕ) : Type 0 where
+  pub low : 2 ≤ p
+  pub high : p ≤ 257
+  pub slope : s < p
+  pub size : n ≡ tileLength p
+
+-- the array holds the sums of the slope-s lines
+abbrev pub Sums : ℕ → ℕ → Cells → List ℕ → Type 0
+Sums p s T sums = (t : ℕ) → t < p → held sums t ≡ sum p s T t
+
+-- r is the place a step of s after t
+pub record Stepped (p t s r : ℕ) : Type 0 where
+  pub is : r ≡ (t + s) % p
+  pub lt : r < p
+
+-- all sums are one byte
+pub record AllOne (p : ℕ) (A B : ℕ → ℕ) : Type 0 where
+  pub first : (t : ℕ) → t < p → A t ≡ A 0
+  pub second : (t : ℕ) → t < p → B t ≡ A 0
+
+-- `out[k] = out[k] ^ x`, as it is seen at t
+pub hit : (out : List ℕ) (k x t : ℕ) → k < length out → held (set out k (bitXor (held out k) x)) t ≡ held out t ⊕ keep (eqb k t) x
+hit out k x t h = go (ℕ-discrete t k)
+  where
+    go : Dec (t ≡ k) → held (set out k (bitXor (held out k) x)) t ≡ held out t ⊕ keep (eqb k t) x
+    go (yes e) = rw (e, eq-eqb k k refl, getD-set-same out k (bitXor (held out k) x) 0 h) (⊕-is (held out k) x)
+    go (no d) = rw (ne-eqb k t (λ e. d (sym e)), getD-set-other out k t (bitXor (held out k) x) 0 d) (sym (zero-r (held out t)))
+
+-- an array of zeros holds 0 at each place
+pub zeros-held : (n k : ℕ) → held (replicate n 0) k ≡ 0
+zeros-held zero k = refl
+zeros-held (suc n) zero = refl
+zeros-held (suc n) (suc k) = zeros-held n k

@@ -1,0 +1,108 @@
+// A hurt column together with a second hurt line, a column or a row. A slope-1 line gives a symbol of the second line, the
+// slope-l line through it gives a symbol of the column, and so on; the column's added zero starts the chain.
+use crate::column::along;
+use crate::column::without_common;
+use crate::index::before;
+use crate::index::number;
+use crate::index::through;
+use code::Line;
+ghost use mathlib.Core.Path.{_≡_};
+ghost use Prim.Native.Nat.{_-_, _*_, _≤_, _<_};
+ghost use lib.ListN.{length};
+ghost use Rattle.code.specs.Slope.{Slope};
+ghost use Rattle.code.specs.OneLine as law;
+ghost use Rattle.code.specs.declared.Line.the-variants.{Column};
+ghost use Rattle.lines.specs.Held.{held};
+ghost use Rattle.lines.specs.Hand.{Places, FromColumn, FromLine};
+ghost use Rattle.lines.specs.Solve.{SettledBy, Closes, hopsOf};
+
+// A column and a second line of a tile of size p and slope l.
+pub struct Pair {
+    pub p: usize,
+    pub l: usize,
+    pub column: usize,
+    pub line: Line,
+}
+
+// The change in the column, and that in the second line.
+pub struct Changes {
+    pub column: [u8; 257],
+    pub line: [u8; 257],
+}
+
+// The changes that settle the sums a and b.
+pub fn solve(pair: Pair, a: &[u8; 257], b: &[u8; 257]) -> Changes
+    requires { ⌜ Slope (pair .p) (pair .l) ⌝ }
+    requires { ⌜ (pair .p ≤ 257) × (pair .column < pair .p) × (law.number (pair .line) < pair .p) ⌝ }
+    requires { ⌜ Closes (pair .p) (pair .l) (pair .column) (pair .line) (held (now a)) (held (now b)) ⌝ }
+    ensures { λ r. ⌜ SettledBy (pair .p) (pair .l) (Column (pair .column)) (pair .line) (held (now (a .entry))) (held (now (b .entry))) (held (r .column)) (held (r .line)) ⌝ }
+{
+    let p = pair.p;
+    let line = pair.line;
+    let mut x = [0u8; 257];
+    let mut y = along(p, line, a);
+    to_line(pair, a, b, &mut x, &mut y, p - 1, 2 * hops(p, line) - 1);
+    Changes {
+        column: x,
+        line: without_common(p, y),
+    }
+}
+
+// How many hops there are from the column to the second line: one for each cell but the crossing.
+fn hops(p: usize, line: Line) -> usize
+    requires { ⌜ 0 < p ⌝ }
+    ensures { λ r. ⌜ r ≡ hopsOf p line ⌝ }
+{
+    match line {
+        Line::Row(_) => p - 1,
+        Line::Column(_) => p,
+    }
+}
+
+// The slope-1 line through cell i of the column gives a symbol of the second line, from which the chain goes on.
+fn to_line(
+    pair: Pair,
+    a: &[u8; 257],
+    b: &[u8; 257],
+    x: &mut [u8; 257],
+    y: &mut [u8; 257],
+    i: usize,
+    unfilled: usize,
+)
+    requires { ⌜ Places (pair .p) (pair .l) (pair .column) (pair .line) i ⌝ }
+    requires { ⌜ (length (now x) ≡ 257) × (length (now y) ≡ 257) ⌝ }
+    ensures { λ _. ⌜ FromColumn (pair .p) (pair .l) (pair .column) (pair .line) (held (now (a .entry))) (held (now (b .entry))) i unfilled (held (now (x .entry))) (held (now (y .entry))) (held (now (x .exit))) (held (now (y .exit))) ⌝ }
+{
+    if unfilled == 0 {
+        return;
+    }
+    let line = pair.line;
+    let t = (i + pair.column) % pair.p;
+    let k = before(pair.p, number(line), t);
+    y[k] = a[t] ^ x[i];
+    to_column(pair, a, b, x, y, k, unfilled - 1);
+}
+
+// The slope-l line through cell k of the second line gives a symbol of the column, from which the chain goes on.
+fn to_column(
+    pair: Pair,
+    a: &[u8; 257],
+    b: &[u8; 257],
+    x: &mut [u8; 257],
+    y: &mut [u8; 257],
+    k: usize,
+    unfilled: usize,
+)
+    requires { ⌜ Places (pair .p) (pair .l) (pair .column) (pair .line) k ⌝ }
+    requires { ⌜ (length (now x) ≡ 257) × (length (now y) ≡ 257) ⌝ }
+    ensures { λ _. ⌜ FromLine (pair .p) (pair .l) (pair .column) (pair .line) (held (now (a .entry))) (held (now (b .entry))) k unfilled (held (now (x .entry))) (held (now (y .entry))) (held (now (x .exit))) (held (now (y .exit))) ⌝ }
+{
+    if unfilled == 0 {
+        return;
+    }
+    let line = pair.line;
+    let t = through(pair.p, pair.l, line, k);
+    let i = before(pair.p, pair.l * pair.column, t);
+    x[i] = b[t] ^ y[k];
+    to_line(pair, a, b, x, y, i, unfilled - 1);
+}

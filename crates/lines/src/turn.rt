@@ -1,0 +1,38 @@
+// The turned tile: its columns are the tile's rows, and its slope is the inverse.
+use crate::index::step;
+ghost use mathlib.Core.Path.{_≡_};
+ghost use Prim.Native.Nat.{ℕ, _*_, _%_, _≤_, _<_};
+ghost use Rattle.code.specs.Slope.{Slope};
+ghost use Rattle.lines.specs.Held.{held};
+
+// The inverse of the slope l.
+pub fn inverse(p: usize, l: usize) -> usize
+    requires { ⌜ Slope p l ⌝ }
+    requires { ⌜ p ≤ 257 ⌝ }
+    ensures { λ r. ⌜ l * r % p ≡ 1 ⌝ }
+    ensures { λ r. ⌜ Slope p r ⌝ }
+{
+    let mut t = l;
+    let mut m = 1;
+    while t != 1 {
+        t = step(p, t, l);
+        m += 1;
+    }
+    m
+}
+
+// The sums of the turned tile's lines of the inverse slope: its line t is the tile's line l t.
+pub fn turned(p: usize, l: usize, b: &[u8; 257]) -> [u8; 257]
+    requires { ⌜ (l < p) × (p ≤ 257) ⌝ }
+    ensures { λ r. ⌜ ((t : ℕ) → t < p → held r t ≡ held (now (b .entry)) (l * t % p)) ⌝ }
+{
+    let mut sums = [0u8; 257];
+    let mut u = 0;
+    let mut t = 0;
+    while t < p {
+        sums[t] = b[u];
+        u = step(p, u, l);
+        t += 1;
+    }
+    sums
+}

@@ -1,0 +1,12 @@
+-- The tile calls: what a reader must believe (`Answer`, `Calls`), and what follows from it.
+pub mod Answer
+pub mod Calls
+pub mod Admit
+pub mod Explain
+pub mod Made
+pub mod Finish
+pub mod Once
+pub mod Promise
+pub mod Decide
+pub mod Worked
+pub mod Shams

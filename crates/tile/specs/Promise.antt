@@ -1,0 +1,105 @@
+-- WHAT THE PROMISES MEAN FOR A USER: what was written is read again, one hurt line is repaired, flagged lines are filled, and a call that
+-- refuses changes no byte; for every size and slope. Assumes nothing.
+use mathlib.Core.Path.{_≡_, refl, sym, _∙_}
+use mathlib.Core.Logic.{_≢_}
+use mathlib.Core.List.{List}
+use Prim.Native.Nat.{ℕ}
+use native.Mathlib.Omega.{arith}
+use lib.ListN.{length}
+use Rattle.code.specs.Size.{Size, Allowed}
+use Rattle.code.specs.Slope.{allowed-slope}
+use Rattle.code.specs.Tile.{tileLength, textLength, Good, textOf, EqualOutside, EqualOutsideBoth}
+use Rattle.code.specs.OneLine.{number}
+use Rattle.code.specs.Distance.{Parallel, distance}
+use Rattle.code.specs.Filling.{parallel-filled}
+use Rattle.code.specs.declared.Line.{Line}
+use Rattle.code.specs.declared.Line.the-variants.{Row, Column}
+use Rattle.tile.specs.Answer.{Said, done, clean, refused}
+use Rattle.tile.specs.Calls.{WriteTold, ReadTold, Explains, RepairTold, Has, FillTold}
+use Rattle.tile.specs.Admit.{admits, admitted-well, admitted-no}
+use Rattle.tile.specs.Explain.{good-explains}
+use Rattle.tile.specs.Once.{read-told-once, repair-told-once, fill-told-once}
+
+-- a tile that was written is read, and what is read is the text that was written
+pub read-after-write : (p l : ℕ) (text tile new page : List ℕ) (said : Said) (page′ : List ℕ) → WriteTold p l text tile done new
+    → length page ≡ textLength p → ReadTold p l new page said page′ → (said ≡ done) × (page′ ≡ text)
+read-after-write p l text tile new page said page′ (WriteTold.writes h w) e r =
+    let s = admitted-well h in
+    let t = read-told-once p l new page said done page′ (textOf p new) r (ReadTold.reads (admits (s .0) (s .1) (w .size, e)) (w .good)) in
+    (t .0, t .1 ∙ w .has)
+
+-- ---- repair
+
+-- a good tile is answered Clean, and not touched
+pub repair-good : (p l : ℕ) (tile : List ℕ) (said : Said) (new : List ℕ) → Size p → Allowed p l → length tile ≡ tileLength p → Good p l tile
+    → RepairTold p l tile said new → (said ≡ clean) × (new ≡ tile)
+repair-good p l tile said new s w e g t = repair-told-once p l tile said clean new tile t (RepairTold.is-good (admits s w e) g)
+
+-- of a tile that differs from the good tile x within the line a ..
+module _ (p l : ℕ) (a : Line) (x tile : List ℕ) (ex : length x ≡ tileLength p) (g : Good p l x) (same : EqualOutside p a x tile) where
+  -- .. x explains it
+  itself : Explains p l a tile x
+  itself = record { size = ex; good = g; same = λ i j hi hj d. sym (same i j hi hj d) }
+
+  -- .. and no other tile does, by whatever line: it would agree with x outside two lines
+  no-other : Size p → Allowed p l → (b : Line) (y : List ℕ) → Explains p l b tile y → y ≡ x
+  no-other s w b y f = distance p l a b y x s w (f .size) ex (f .good) g (λ i j hi hj d q. sym (f .same i j hi hj q) ∙ sym (same i j hi hj d))
+
+-- a good tile with one line changed is repaired to itself, and never refused
+pub repair-one-line : (p l : ℕ) (a : Line) (x tile : List ℕ) (said : Said) (new : List ℕ) → Size p → Allowed p l
+    → length x ≡ tileLength p → length tile ≡ tileLength p → Good p l x → EqualOutside p a x tile
+    → RepairTold p l tile said new → (new ≡ x) × ((n : ℕ) → said ≡ refused n → ⊥)
+repair-one-line p l a x tile said new s w ex e g same told = (repaired told, λ n q. not-refused (rw q at told))
+  where
+    known : (b : Line) (y : List ℕ) → Explains p l b tile y → y ≡ x
+    known = no-other p l a x tile ex g same s w
+
+    repaired : {said : Said} {new : List ℕ} → RepairTold p l tile said new → new ≡ x
+    repaired (RepairTold.refuses h) = absurd (admitted-no h (s, w, e))
+    repaired (RepairTold.is-good h f) = known a tile (good-explains p l a tile e f)
+    repaired (RepairTold.by-column {c} {new} h f q u) = known (Column c) new q
+    repaired (RepairTold.by-row {r} {new} h f q u) = known (Row r) new q
+    repaired (RepairTold.by-none h f) = absurd (f a x (itself p l a x tile ex g same))
+
+    not-refused : {n : ℕ} {new : List ℕ} → RepairTold p l tile (refused n) new → ⊥
+    not-refused (RepairTold.refuses h) = admitted-no h (s, w, e)
+    not-refused (RepairTold.by-none h f) = f a x (itself p l a x tile ex g same)
+
+-- ---- fill
+
+-- a good tile with changes in two lines that are flagged becomes itself
+pub fill-flagged : (p l : ℕ) (a b : Line) (x tile : List ℕ) (said : Said) (new : List ℕ) → Size p → Allowed p l
+    → length x ≡ tileLength p → length tile ≡ tileLength p → Good p l x → Has p a → Has p b → EqualOutsideBoth p a b x tile
+    → FillTold p l tile a b said new → (said ≡ done) × (new ≡ x)
+fill-flagged p l a b x tile said new s w ex e g ha hb same t =
+    fill-told-once p l tile a b said done new x t
+    (FillTold.fills (admits s w e) ha hb (record { size = ex; good = g; agrees = λ i j hi hj d q. sym (same i j hi hj d q) }))
+
+-- two rows, or two columns, always have a filling
+pub fill-parallel : (p l : ℕ) (tile : List ℕ) (a b : Line) (said : Said) (new : List ℕ) → Size p → Allowed p l
+    → length tile ≡ tileLength p → Has p a → Has p b → Parallel a b → number a ≢ number b → FillTold p l tile a b said new → said ≡ done
+fill-parallel p l tile a b said new s w e ha hb side apart t =
+    let f = parallel-filled p l a b tile (allowed-slope p l s w) side apart (omega arith) (omega arith) in
+    fill-told-once p l tile a b said done new (f .0) t (FillTold.fills (admits s w e) ha hb (f .1)) .0
+
+-- ---- a call that refuses leaves the lent bytes as they were
+
+-- a refused write leaves the tile
+pub write-refused : {p l n : ℕ} {text tile new : List ℕ} → WriteTold p l text tile (refused n) new → new ≡ tile
+write-refused (WriteTold.refuses h) = refl
+
+-- a refused read leaves the text
+pub read-refused : {p l n : ℕ} {tile text new : List ℕ} → ReadTold p l tile text (refused n) new → new ≡ text
+read-refused (ReadTold.refuses h) = refl
+read-refused (ReadTold.not-good h f) = refl
+
+-- a refused repair leaves the tile
+pub repair-refused : {p l n : ℕ} {tile new : List ℕ} → RepairTold p l tile (refused n) new → new ≡ tile
+repair-refused (RepairTold.refuses h) = refl
+repair-refused (RepairTold.by-none h f) = refl
+
+-- a refused filling leaves the tile
+pub fill-refused : {p l n : ℕ} {tile new : List ℕ} {a b : Line} → FillTold p l tile a b (refused n) new → new ≡ tile
+fill-refused (FillTold.refuses h) = refl
+fill-refused (FillTold.no-line h f) = refl
+fill-refused (FillTold.none h ha hb f) = refl
