@@ -3,7 +3,7 @@ use mathlib.Core.Path.{_≡_, refl, sym, ap, ap₂, _∙_}
 use mathlib.Core.Logic.{_≢_, _⊎_, inl, inr}
 use mathlib.Core.List.{List}
 use Prim.Native.Nat.{ℕ, _+_, _-_, _*_, _%_, _≤_, _<_}
-use native.Mathlib.Nat.{mod-lt, eq-or-lt-of-le}
+use native.Mathlib.Nat.{mod-lt, mod-mod, mod-add-mod, eq-or-lt-of-le}
 use native.Mathlib.Omega.{arith}
 use lib.Bits.{bitXor}
 use lib.ListN.{length, set}
@@ -14,17 +14,34 @@ use Rattle.code.specs.Tile.{line}
 use Rattle.code.specs.OneLine.{number, through}
 use Rattle.code.specs.Pair.{Hops}
 use Rattle.code.specs.declared.Line.{Line}
+use Rattle.code.specs.declared.Line.the-variants.{Row, Column}
 use Rattle.lines.specs.Held.{held}
 use Rattle.lines.specs.Fill.{from-number}
 
--- a column and a second line of a tile, and a place in one of them
-pub record Places (p l c : ℕ) (b : Line) (place : ℕ) : Type 0 where
-  pub some : 0 < p
+-- the numbers by which the chain finds its way, and a place in one of the two lines
+pub record Places (p c n base weight back place : ℕ) : Type 0 where
   pub high : p ≤ 257
-  pub slope : l < p
   pub column : c < p
-  pub line : number b < p
+  pub line : n < p
+  pub base-lt : base < p
+  pub weight-lt : weight < p
+  pub back-lt : back < p
   pub at : place < p
+
+-- how far the slope-l lines through two neighbours in the line b are from each other
+abbrev pub weightOf : ℕ → Line → ℕ
+weightOf l (Row s) = l
+weightOf l (Column v) = 1
+
+pub weight-most : (p l : ℕ) (b : Line) → l < p → 1 < p → weightOf l b < p
+weight-most p l (Row s) h k = h
+weight-most p l (Column v) h k = k
+
+-- the numbers are those of column c and the line b at slope l
+pub record Leads (p l c : ℕ) (b : Line) (n base weight back : ℕ) : Type 0 where
+  pub line : n ≡ number b
+  pub there : (k : ℕ) → (base + weight * k) % p ≡ through p l b k
+  pub returns : back ≡ l * c % p
 
 -- from x and y to x′ and y′ the chain has filled the column's symbols after hop k and the second line's from hop k′ on, each from the one
 -- before it, and nothing else
@@ -34,15 +51,17 @@ pub record Onward (p l c : ℕ) (A B : ℕ → ℕ) (n : ℕ) (walk stop : ℕ �
   pub line-kept : (j : ℕ) → ((h : ℕ) → k′ ≤ h → h < n → stop h ≢ j) → y′ j ≡ y j
   pub column-kept : (i : ℕ) → ((h : ℕ) → k < h → h < n → walk h ≢ i) → x′ i ≡ x i
 
--- from cell i of the column on, with so many symbols unfilled, whatever hops these are
-abbrev pub FromColumn : ℕ → ℕ → ℕ → Line → (ℕ → ℕ) → (ℕ → ℕ) → ℕ → ℕ → (ℕ → ℕ) → (ℕ → ℕ) → (ℕ → ℕ) → (ℕ → ℕ) → Type 0
-FromColumn p l c b A B i unfilled x y x′ y′ =
-    (n : ℕ) (walk stop : ℕ → ℕ) (k : ℕ) → Hops p l c b n walk stop → walk k ≡ i → unfilled + 2 * k + 1 ≡ 2 * n → Onward p l c A B n walk stop k k x y x′ y′
+-- from cell i of the column on, with so many symbols unfilled, whatever lines and hops these are
+abbrev pub FromColumn : ℕ → ℕ → ℕ → ℕ → ℕ → ℕ → (ℕ → ℕ) → (ℕ → ℕ) → ℕ → ℕ → (ℕ → ℕ) → (ℕ → ℕ) → (ℕ → ℕ) → (ℕ → ℕ) → Type 0
+FromColumn p c n base weight back A B i unfilled x y x′ y′ =
+    (l : ℕ) (b : Line) → Leads p l c b n base weight back
+    → (m : ℕ) (walk stop : ℕ → ℕ) (k : ℕ) → Hops p l c b m walk stop → walk k ≡ i → unfilled + 2 * k + 1 ≡ 2 * m → Onward p l c A B m walk stop k k x y x′ y′
 
 -- from cell j of the second line on
-abbrev pub FromLine : ℕ → ℕ → ℕ → Line → (ℕ → ℕ) → (ℕ → ℕ) → ℕ → ℕ → (ℕ → ℕ) → (ℕ → ℕ) → (ℕ → ℕ) → (ℕ → ℕ) → Type 0
-FromLine p l c b A B j unfilled x y x′ y′ =
-    (n : ℕ) (walk stop : ℕ → ℕ) (k : ℕ) → Hops p l c b n walk stop → stop k ≡ j → unfilled + 2 * k + 2 ≡ 2 * n → Onward p l c A B n walk stop k (k + 1) x y x′ y′
+abbrev pub FromLine : ℕ → ℕ → ℕ → ℕ → ℕ → ℕ → (ℕ → ℕ) → (ℕ → ℕ) → ℕ → ℕ → (ℕ → ℕ) → (ℕ → ℕ) → (ℕ → ℕ) → (ℕ → ℕ) → Type 0
+FromLine p c n base weight back A B j unfilled x y x′ y′ =
+    (l : ℕ) (b : Line) → Leads p l c b n base weight back
+    → (m : ℕ) (walk stop : ℕ → ℕ) (k : ℕ) → Hops p l c b m walk stop → stop k ≡ j → unfilled + 2 * k + 2 ≡ 2 * m → Onward p l c A B m walk stop k (k + 1) x y x′ y′
 
 -- ---- the places that the two functions find are those of the hops
 
@@ -55,8 +74,8 @@ module _ (p l c : ℕ) (b : Line) (n : ℕ) (walk stop : ℕ → ℕ) (hops : Ho
       ∙ same p (omega arith) ∙ sym (hops .first k) ∙ sym (from-number p b (stop k)) ∙ same p (omega arith))
 
   -- the cell of the column on the slope-l line through the k-th stop
-  back : (k : ℕ) → before p (l * c) (through p l b (stop k)) ≡ walk (k + 1)
-  back k = ap (before p (l * c)) (hops .second k) ∙ step-before p (l * c) (walk (k + 1)) (hops .row (k + 1))
+  back-to : (k : ℕ) → before p (l * c) (through p l b (stop k)) ≡ walk (k + 1)
+  back-to k = ap (before p (l * c)) (hops .second k) ∙ step-before p (l * c) (walk (k + 1)) (hops .row (k + 1))
 
   -- no two stops are the same
   stops-once : (j k : ℕ) → j < k → k < n → stop j ≢ stop k
@@ -113,34 +132,51 @@ module _ (p l c : ℕ) (b : Line) (n : ℕ) (walk stop : ℕ → ℕ) (hops : Ho
 stored : (out : List ℕ) (k v m : ℕ) → k < length out → m ≡ k → held (set out k v) m ≡ v
 stored out k v m h e = rw e (getD-set-same out k v 0 h)
 
-module _ (p l c : ℕ) (b : Line) (A B : ℕ → ℕ) (unfilled : ℕ) (x′ y′ : ℕ → ℕ) (some : 0 < p) (c-lt : c < p) where
+module _ (p c n base weight back : ℕ) (A B : ℕ → ℕ) (unfilled : ℕ) (x′ y′ : ℕ → ℕ) (c-lt : c < p) where
   -- nothing is unfilled
-  pub no-line : (i : ℕ) (x y : ℕ → ℕ) → unfilled ≡ 0 → FromColumn p l c b A B i unfilled x y x y
-  no-line i x y z n walk stop k hops e q = omega arith
+  pub no-line : (i : ℕ) (x y : ℕ → ℕ) → unfilled ≡ 0 → FromColumn p c n base weight back A B i unfilled x y x y
+  no-line i x y z l b leads m walk stop k hops e q = omega arith
 
-  pub no-column : (j : ℕ) (x y : ℕ → ℕ) → unfilled ≡ 0 → FromLine p l c b A B j unfilled x y x y
-  no-column j x y z n walk stop k hops e q = all-filled p l c b n walk stop hops some c-lt A B k x y x y (omega arith)
+  pub no-column : (j : ℕ) (x y : ℕ → ℕ) → unfilled ≡ 0 → FromLine p c n base weight back A B j unfilled x y x y
+  no-column j x y z l b leads m walk stop k hops e q = all-filled p l c b m walk stop hops (omega arith) c-lt A B k x y x y (omega arith)
 
   -- cell i of the column gives cell j of the second line
-  pub line-turn : (x : ℕ → ℕ) (y : List ℕ) (i j t : ℕ) → (unfilled ≡ 0 → ⊥) → t ≡ (i + c) % p → j ≡ before p (number b) t → j < length y
-      → FromLine p l c b A B j (unfilled - 1) x (held (set y j (bitXor (A t) (x i)))) x′ y′ → FromColumn p l c b A B i unfilled x (held y) x′ y′
-  line-turn x y i j t more et ej lt o n walk stop k hops e q =
-      line-filled p l c b n walk stop hops some c-lt A B k x (held y) x′ y′ (held (set y j (bitXor (A t) (x i)))) (omega arith)
-      (stored y j _ (stop k) lt (sym at) ∙ ⊕-is (A t) (x i) ∙ ap₂ _⊕_ (ap A (et ∙ ap (λ (m : ℕ). (m + c) % p) (sym e) ∙ same p (omega arith))) (ap x (sym e)))
-      (λ m d. getD-set-other y j m _ 0 (λ f. d (f ∙ at)))
-      (o n walk stop k hops (sym at) (omega arith))
+  pub line-turn : (x : ℕ → ℕ) (y : List ℕ) (i j t : ℕ) → (unfilled ≡ 0 → ⊥) → t ≡ (i + c) % p → j ≡ before p n t → j < length y
+      → FromLine p c n base weight back A B j (unfilled - 1) x (held (set y j (bitXor (A t) (x i)))) x′ y′
+      → FromColumn p c n base weight back A B i unfilled x (held y) x′ y′
+  line-turn x y i j t more et ej lt o l b leads m walk stop k hops e q =
+      line-filled p l c b m walk stop hops (omega arith) c-lt A B k x (held y) x′ y′ (held (set y j (bitXor (A t) (x i)))) (omega arith)
+      (stored y j _ (stop k) lt (sym at) ∙ ⊕-is (A t) (x i) ∙ ap₂ _⊕_ (ap A (et ∙ ap (λ (w : ℕ). (w + c) % p) (sym e) ∙ same p (omega arith))) (ap x (sym e)))
+      (λ w d. getD-set-other y j w _ 0 (λ f. d (f ∙ at)))
+      (o l b leads m walk stop k hops (sym at) (omega arith))
     where
       at : j ≡ stop k
-      at = ej ∙ ap (before p (number b)) (et ∙ ap (λ (m : ℕ). (m + c) % p) (sym e)) ∙ there p l c b n walk stop hops some c-lt k
+      at =
+          ej ∙ ap (λ (w : ℕ). before p w t) (leads .line) ∙ ap (before p (number b)) (et ∙ ap (λ (w : ℕ). (w + c) % p) (sym e))
+          ∙ there p l c b m walk stop hops (omega arith) c-lt k
 
   -- cell j of the second line gives cell i of the column
-  pub column-turn : (x : List ℕ) (y : ℕ → ℕ) (i j t : ℕ) → (unfilled ≡ 0 → ⊥) → t ≡ through p l b j → i ≡ before p (l * c) t → i < length x
-      → FromColumn p l c b A B i (unfilled - 1) (held (set x i (bitXor (B t) (y j)))) y x′ y′ → FromLine p l c b A B j unfilled (held x) y x′ y′
-  column-turn x y i j t more et ei lt o n walk stop k hops e q =
-      column-filled p l c b n walk stop hops some c-lt A B k (held x) y x′ y′ (held (set x i (bitXor (B t) (y j)))) (omega arith)
-      (stored x i _ (walk (k + 1)) lt (sym at) ∙ ⊕-is (B t) (y j) ∙ ap₂ _⊕_ (ap B (et ∙ ap (through p l b) (sym e) ∙ hops .second k)) (ap y (sym e)))
-      (λ m d. getD-set-other x i m _ 0 (λ f. d (f ∙ at)))
-      (o n walk stop (k + 1) hops (sym at) (omega arith))
+  pub column-turn : (x : List ℕ) (y : ℕ → ℕ) (i j t : ℕ) → (unfilled ≡ 0 → ⊥) → t ≡ (base + weight * j) % p → i ≡ before p back t → i < length x
+      → FromColumn p c n base weight back A B i (unfilled - 1) (held (set x i (bitXor (B t) (y j)))) y x′ y′
+      → FromLine p c n base weight back A B j unfilled (held x) y x′ y′
+  column-turn x y i j t more et ei lt o l b leads m walk stop k hops e q =
+      column-filled p l c b m walk stop hops (omega arith) c-lt A B k (held x) y x′ y′ (held (set x i (bitXor (B t) (y j)))) (omega arith)
+      (stored x i _ (walk (k + 1)) lt (sym at) ∙ ⊕-is (B t) (y j) ∙ ap₂ _⊕_ (ap B (is ∙ hops .second k)) (ap y (sym e)))
+      (λ w d. getD-set-other x i w _ 0 (λ f. d (f ∙ at)))
+      (o l b leads m walk stop (k + 1) hops (sym at) (omega arith))
     where
+      is : t ≡ through p l b (stop k)
+      is = et ∙ leads .there j ∙ ap (through p l b) (sym e)
+
       at : i ≡ walk (k + 1)
-      at = ei ∙ ap (before p (l * c)) (et ∙ ap (through p l b) (sym e)) ∙ back p l c b n walk stop hops some c-lt k
+      at =
+          ei ∙ ap (λ (w : ℕ). (t + (p - w)) % p) (ap (λ (w : ℕ). w % p) (leads .returns) ∙ mod-mod (l * c) p) ∙ ap (before p (l * c)) is
+          ∙ back-to p l c b m walk stop hops (omega arith) c-lt k
+
+-- the numbers that the chain starts with
+pub leads : (p l c : ℕ) (b : Line) → Leads p l c b (number b) (through p l b 0) (weightOf l b) (l * c % p)
+leads p l c b = record { line = refl; there = there-by b; returns = refl }
+  where
+    there-by : (b : Line) (k : ℕ) → (through p l b 0 + weightOf l b * k) % p ≡ through p l b k
+    there-by (Row s) k = mod-add-mod (s + l * 0) p (l * k) ∙ same p (omega arith)
+    there-by (Column v) k = mod-add-mod (0 + l * v) p (1 * k) ∙ same p (omega arith)

@@ -17,7 +17,7 @@ use Rattle.code.specs.declared.Line.{Line}
 use Rattle.code.specs.declared.Line.the-variants.{Row, Column}
 use Rattle.lines.specs.Fill.{from-number}
 use Rattle.lines.specs.Column.{Along, TakenOff}
-use Rattle.lines.specs.Hand.{Onward, FromColumn}
+use Rattle.lines.specs.Hand.{Onward, weightOf, leads, FromColumn}
 
 -- x in the line a and y in the line b settle the sums A and B, and are 0 where the lines meet the added zeros
 pub record SettledBy (p l : ℕ) (a b : Line) (A B x y : ℕ → ℕ) : Type 0 where
@@ -58,7 +58,7 @@ through-once p b j k hj hk e =
 
 -- what the chain has filled, from zeros in the column and the sums along the second line, settles the sums once the common byte is taken off
 pub chain-settled : (p l c : ℕ) (b : Line) (A B x y x′ y′ w : ℕ → ℕ) → Slope p l → Closes p l c b A B → c < p → number b < p
-    → ((k : ℕ) → x k ≡ 0) → Along p A b y → FromColumn p l c b A B (p - 1) (2 * hopsOf p b - 1) x y x′ y′ → TakenOff p y′ w
+    → ((k : ℕ) → x k ≡ 0) → Along p A b y → FromColumn p c (number b) (through p l b 0) (weightOf l b) (l * c % p) A B (p - 1) (2 * hopsOf p b - 1) x y x′ y′ → TakenOff p y′ w
     → SettledBy p l (Column c) b A B x′ w
 chain-settled p l c b A B x y x′ y′ w S closes hc hb zero sums filled off = record {
   settles =
@@ -83,7 +83,7 @@ chain-settled p l c b A B x y x′ y′ w S closes hc hb zero sums filled off = 
     hops = closes .closing .hops
 
     o : Onward p l c A B n walk stop 0 0 x y x′ y′
-    o = filled n walk stop 0 hops (hops .start) (omega (arith, hops .round .some))
+    o = filled l b (leads p l c b) n walk stop 0 hops (hops .start) (omega (arith, hops .round .some))
 
     start : x′ (p - 1) ≡ 0
     start = o .column-kept (p - 1) (λ h q m e. hops .round .once 0 h q m (hops .start ∙ sym e)) ∙ zero (p - 1)

@@ -1,15 +1,13 @@
 -- The walk of a tile that fills the sums of its lines: what the rows passed have added to each line. Assumes nothing.
 use mathlib.Core.Path.{_≡_, refl, sym, _∙_}
 use mathlib.Core.List.{List}
-use Prim.Native.Nat.{ℕ, _+_, _-_, _*_, _%_, _≤_, _<_}
-use native.Mathlib.Nat.{mod-add-mod, mod-eq-of-lt}
+use Prim.Native.Nat.{ℕ, _+_, _-_, _*_, _≤_, _<_}
 use native.Mathlib.Omega.{arith}
 use lib.Bits.{bitXor}
 use lib.Dec.{eqb}
 use lib.ListN.{length, set, replicate, getD-replicate}
 use Rattle.xor.specs.Xor.{_⊕_, assoc, zero-r}
 use Rattle.xor.specs.Sum.{xorBelow, keep, keep-zero, none, more, count, ext, zeros}
-use Rattle.residue.specs.Remainder.{same}
 use Rattle.code.specs.Tile.{Cells, cell, line, sum}
 use Rattle.code.specs.Sums.{Padded}
 use Rattle.code.specs.Place.{cell-in, place-is}
@@ -27,13 +25,6 @@ abbrev pub RowAdded : ℕ → ℕ → Cells → ℕ → ℕ → List ℕ → Lis
 RowAdded p s T i j sums sums′ = (t : ℕ) → held sums′ t ≡ held sums t ⊕ rowPart p s T t i j
 
 -- ---- a row
-
--- the line of the row's first cell, and of the next
-pub line-first : (p s i : ℕ) → i < p → i ≡ line p s i 0
-line-first p s i h = sym (same p (omega arith) ∙ mod-eq-of-lt h)
-
-pub line-next : (p s i j t r : ℕ) → t ≡ line p s i j → r ≡ (t + s) % p → r ≡ line p s i (j + 1)
-line-next p s i j t r e d = rw (d, e, mod-add-mod) (same p (omega arith))
 
 -- no cell is added yet
 pub row-none : (p s : ℕ) (T : Cells) (i : ℕ) (sums : List ℕ) → RowAdded p s T i 0 sums sums

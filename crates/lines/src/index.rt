@@ -17,10 +17,10 @@ pub fn step(p: usize, t: usize, s: usize) -> usize
 
 // The place from which a step of k comes to t.
 pub fn before(p: usize, k: usize, t: usize) -> usize
-    requires { ⌜ (t < p) × (p ≤ 257) ⌝ }
+    requires { ⌜ (k < p) × (t < p) × (p ≤ 257) ⌝ }
     ensures { λ r. ⌜ (r ≡ remainder.before p k t) × (r < p) ⌝ }
 {
-    (t + (p - k % p)) % p
+    if t < k { t + p - k } else { t - k }
 }
 
 // The number of a row or a column.

@@ -4,6 +4,7 @@ use crate::column::along;
 use crate::column::without_common;
 use crate::index::before;
 use crate::index::number;
+use crate::index::step;
 use crate::index::through;
 use code::Line;
 ghost use mathlib.Core.Path.{_≡_};
@@ -13,7 +14,7 @@ ghost use Rattle.code.specs.Slope.{Slope};
 ghost use Rattle.code.specs.OneLine as law;
 ghost use Rattle.code.specs.declared.Line.the-variants.{Column};
 ghost use Rattle.lines.specs.Held.{held};
-ghost use Rattle.lines.specs.Hand.{Places, FromColumn, FromLine};
+ghost use Rattle.lines.specs.Hand.{Places, weightOf, FromColumn, FromLine};
 ghost use Rattle.lines.specs.Solve.{SettledBy, Closes, hopsOf};
 
 // A column and a second line of a tile of size p and slope l.
@@ -38,10 +39,27 @@ pub fn solve(pair: Pair, a: &[u8; 257], b: &[u8; 257]) -> Changes
     ensures { λ r. ⌜ SettledBy (pair .p) (pair .l) (Column (pair .column)) (pair .line) (held (now (a .entry))) (held (now (b .entry))) (held (r .column)) (held (r .line)) ⌝ }
 {
     let p = pair.p;
+    let l = pair.l;
+    let c = pair.column;
     let line = pair.line;
     let mut x = [0u8; 257];
     let mut y = along(p, line, a);
-    to_line(pair, a, b, &mut x, &mut y, p - 1, 2 * hops(p, line) - 1);
+    let base = through(p, l, line, 0);
+    let unfilled = 2 * hops(p, line) - 1;
+    to_line(
+        p,
+        c,
+        number(line),
+        base,
+        weight(l, line),
+        l * c % p,
+        a,
+        b,
+        &mut x,
+        &mut y,
+        p - 1,
+        unfilled,
+    );
     Changes {
         column: x,
         line: without_common(p, y),
@@ -59,9 +77,26 @@ fn hops(p: usize, line: Line) -> usize
     }
 }
 
-// The slope-1 line through cell i of the column gives a symbol of the second line, from which the chain goes on.
+// How far the slope-l lines through two neighbours in the second line are from each other.
+fn weight(l: usize, line: Line) -> usize
+    ensures { λ r. ⌜ r ≡ weightOf l line ⌝ }
+{
+    match line {
+        Line::Row(_) => l,
+        Line::Column(_) => 1,
+    }
+}
+
+// The slope-1 line through cell i of column c gives a symbol of the second line, which has the number n. From there the chain
+// goes on, until no symbol is unfilled. The slope-l line through cell k of the second line is base + weight k, and the one through
+// cell i of the column is i + back. (These are plain numbers so that the two functions compile to one loop.)
 fn to_line(
-    pair: Pair,
+    p: usize,
+    c: usize,
+    n: usize,
+    base: usize,
+    weight: usize,
+    back: usize,
     a: &[u8; 257],
     b: &[u8; 257],
     x: &mut [u8; 257],
@@ -69,23 +104,27 @@ fn to_line(
     i: usize,
     unfilled: usize,
 )
-    requires { ⌜ Places (pair .p) (pair .l) (pair .column) (pair .line) i ⌝ }
+    requires { ⌜ Places p c n base weight back i ⌝ }
     requires { ⌜ (length (now x) ≡ 257) × (length (now y) ≡ 257) ⌝ }
-    ensures { λ _. ⌜ FromColumn (pair .p) (pair .l) (pair .column) (pair .line) (held (now (a .entry))) (held (now (b .entry))) i unfilled (held (now (x .entry))) (held (now (y .entry))) (held (now (x .exit))) (held (now (y .exit))) ⌝ }
+    ensures { λ _. ⌜ FromColumn p c n base weight back (held (now (a .entry))) (held (now (b .entry))) i unfilled (held (now (x .entry))) (held (now (y .entry))) (held (now (x .exit))) (held (now (y .exit))) ⌝ }
 {
     if unfilled == 0 {
         return;
     }
-    let line = pair.line;
-    let t = (i + pair.column) % pair.p;
-    let k = before(pair.p, number(line), t);
+    let t = step(p, i, c);
+    let k = before(p, n, t);
     y[k] = a[t] ^ x[i];
-    to_column(pair, a, b, x, y, k, unfilled - 1);
+    to_column(p, c, n, base, weight, back, a, b, x, y, k, unfilled - 1);
 }
 
 // The slope-l line through cell k of the second line gives a symbol of the column, from which the chain goes on.
 fn to_column(
-    pair: Pair,
+    p: usize,
+    c: usize,
+    n: usize,
+    base: usize,
+    weight: usize,
+    back: usize,
     a: &[u8; 257],
     b: &[u8; 257],
     x: &mut [u8; 257],
@@ -93,16 +132,15 @@ fn to_column(
     k: usize,
     unfilled: usize,
 )
-    requires { ⌜ Places (pair .p) (pair .l) (pair .column) (pair .line) k ⌝ }
+    requires { ⌜ Places p c n base weight back k ⌝ }
     requires { ⌜ (length (now x) ≡ 257) × (length (now y) ≡ 257) ⌝ }
-    ensures { λ _. ⌜ FromLine (pair .p) (pair .l) (pair .column) (pair .line) (held (now (a .entry))) (held (now (b .entry))) k unfilled (held (now (x .entry))) (held (now (y .entry))) (held (now (x .exit))) (held (now (y .exit))) ⌝ }
+    ensures { λ _. ⌜ FromLine p c n base weight back (held (now (a .entry))) (held (now (b .entry))) k unfilled (held (now (x .entry))) (held (now (y .entry))) (held (now (x .exit))) (held (now (y .exit))) ⌝ }
 {
     if unfilled == 0 {
         return;
     }
-    let line = pair.line;
-    let t = through(pair.p, pair.l, line, k);
-    let i = before(pair.p, pair.l * pair.column, t);
+    let t = (base + weight * k) % p;
+    let i = before(p, back, t);
     x[i] = b[t] ^ y[k];
-    to_line(pair, a, b, x, y, i, unfilled - 1);
+    to_line(p, c, n, base, weight, back, a, b, x, y, i, unfilled - 1);
 }

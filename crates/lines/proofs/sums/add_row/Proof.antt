@@ -6,7 +6,8 @@ use native.Mathlib.Omega.{arith}
 use lib.ListN.{length, length-set}
 use Rattle.code.specs.Tile.{cell, line}
 use Rattle.code.specs.Place.{row-lt}
-use Rattle.lines.specs.Walk.{RowAdded, line-first, line-next, row-none, row-more}
+use Rattle.lines.specs.Fill.{begins, carried}
+use Rattle.lines.specs.Walk.{RowAdded, row-none, row-more}
 use Rattle.lines.proofs.sums.add_row.Statement.{statement}
 use Rattle.lines.proofs.sums.add_row.Tie as tie
 
@@ -28,7 +29,7 @@ mul-start c =
 loop-holds : tie.Need-loop-holds Inv-loop μ-loop
 loop-holds c =
     let a = c .before .args in
-    (omega arith, omega arith, omega arith, line-first _ _ _ (omega arith), row-none (a .p) (a .s) (cell (a .p) (a .tile .now)) (a .i) (a .sums .now))
+    (omega arith, omega arith, omega arith, begins (a .p) (a .i) (a .s) (omega arith), row-none (a .p) (a .s) (cell (a .p) (a .tile .now)) (a .i) (a .sums .now))
 
 sub-loop : tie.Need-sub-loop Inv-loop μ-loop
 sub-loop c = omega arith
@@ -67,7 +68,7 @@ loop-again c =
       omega arith,
       simp length-set (omega arith),
       omega arith,
-      line-next _ _ _ _ _ _ (l .inv .3) (c .step .ensures .is),
+      carried (a .p) (a .i) (a .s) (l .j) (l .t) _ (l .inv .3) (c .step .ensures),
       row-more (a .p) (a .s) (a .tile .now) (a .i) (l .j) (a .sums .now) (l .sums) (l .t) (omega arith) (omega arith) (omega arith) (l .inv .3) (l .inv .4),
     )
 
