@@ -1,8 +1,16 @@
 // Runs the cases that document 01 works out, and prints a line for each. What it has to print is its file `stdout`, which
 // tests/expected_worked.py works out from the document without this program.
-mod print;
+mod edges;
+mod paper;
 mod sizes;
+mod tiles;
 
 fn main() {
     sizes::print_cases();
+    tiles::print_cases();
+    paper::print_cases();
+    samples::lost::print_cases();
+    samples::hurt::print_cases();
+    edges::print_cases();
+    samples::garbage::print_cases();
 }

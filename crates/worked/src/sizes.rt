@@ -1,8 +1,8 @@
 // The cases of sizes and slopes: what the crate `size` answers on both sides of every edge, and at the largest numbers.
-use crate::print;
+use report::answer;
+use report::print;
 use size::House;
 use size::Judgement;
-use size::Refusal;
 
 // Sizes and slopes are asked for from 0 to this number, which lies well past the largest size.
 const LAST: usize = 300;
@@ -40,7 +40,7 @@ fn print_house_slope(p: usize) {
     print::number(p);
     match size::house_slope(p) {
         House::Slope(l) => print::number(l),
-        House::Refused(refusal) => print_refusal(refusal),
+        House::Refused(refusal) => answer::refusal(refusal),
     }
     print::end_line();
 }
@@ -120,12 +120,7 @@ fn print_judged(name: &[u8], p: usize, l: usize) {
 fn print_judgement(judgement: Judgement) {
     match judgement {
         Judgement::Taken => print::words(b" taken"),
-        Judgement::Refused(refusal) => print_refusal(refusal),
+        Judgement::Refused(refusal) => answer::refusal(refusal),
     }
     print::end_line();
-}
-
-fn print_refusal(refusal: Refusal) {
-    print::words(b" refused");
-    print::number(size::number(refusal));
 }

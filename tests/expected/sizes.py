@@ -1,0 +1,78 @@
+"""Sizes and slopes: each list that document 01 gives is held against the rule that it gives."""
+
+from math import gcd
+
+LAST = 300  # sizes and slopes are asked for from 0 to here
+LARGEST = 2**64 - 1  # the largest number that a caller can give
+
+# The sentence of "Sizes and slopes" that lists the house slope of each size.
+HOUSE_SLOPES = """
+    2 for 5, 11, 13, 19, 29, 37, 53, 59, 61, 67, 83, 101, 107, 131, 139, 149, 163, 173, 179, 181, 197, 211, 227;
+    3 for 7, 17, 31, 43, 79, 89, 113, 127, 137, 199, 223, 233, 257;
+    5 for 23, 47, 73, 97, 103, 157, 167, 193;
+    6 for 41, 109, 151, 229, 251;
+    7 for 71, 239, 241;
+    19 for 191"""
+
+
+def listed_house_slopes():
+    """The house slope of each size, as the sentence lists it."""
+    listed = {}
+    for clause in HOUSE_SLOPES.split(";"):
+        slope, sizes = clause.split(" for ")
+        for size in sizes.split(","):
+            assert int(size) not in listed, f"{size} is listed twice"
+            listed[int(size)] = int(slope)
+    return listed
+
+
+def is_size(p):
+    """A prime from 5 to 257, by trial division."""
+    return 5 <= p <= 257 and all(p % d != 0 for d in range(2, p))
+
+
+def is_slope(p, l):
+    """From 2 to p-2, and the p-1 powers of l modulo p reach each of 1 to p-1."""
+    return 2 <= l <= p - 2 and {pow(l, k, p) for k in range(1, p)} == set(range(1, p))
+
+
+def verdict(p, l):
+    """Number 1 comes before number 2."""
+    if not is_size(p):
+        return "refused 1"
+    return "taken" if is_slope(p, l) else "refused 2"
+
+
+def phi(n):
+    """How many of 1 to n share no divisor with n."""
+    return sum(gcd(k, n) == 1 for k in range(1, n + 1))
+
+
+SIZES = [p for p in range(LAST + 1) if is_size(p)]
+SLOPES = {p: [l for l in range(LAST + 1) if is_slope(p, l)] for p in SIZES}
+HOUSE = {p: SLOPES[p][0] for p in SIZES}
+
+assert HOUSE == listed_house_slopes()
+assert len(SIZES) == 53
+# The slopes whose powers reach all are phi(p-1) in number, and from 5 on neither 1 nor p-1 is among them.
+assert all(len(SLOPES[p]) == phi(p - 1) for p in SIZES)
+# Worked tile 12, and the trap "2 serves at 5, not at 7 or 17".
+assert [verdict(p, 2) for p in (4, 9, 258)] == ["refused 1"] * 3 and is_size(5) and is_size(257)
+assert [verdict(7, l) for l in (2, 6, 3, 5)] == ["refused 2", "refused 2", "taken", "taken"]
+assert [verdict(p, 2) for p in (5, 7, 17)] == ["taken", "refused 2", "refused 2"]
+
+
+def print_cases():
+    """All lines of this part."""
+    for p in range(LAST + 1):
+        print("house", p, HOUSE.get(p, "refused 1"))
+        if p in SIZES:
+            print("slopes", p, len(SLOPES[p]))
+    print("sizes taken:", len(SIZES))
+    for p in (4, 9, 258, 5, 257):
+        print("size", p, verdict(p, HOUSE.get(p, 2)))
+    for p in (7, 5, 17):
+        for l in range(p + 1):
+            print("slope", p, l, verdict(p, l))
+    for p, l in ((9, 0), (0, 0), (258, 1), (7, 0), (LARGEST, 3), (7, LARGEST), (LARGEST, LARGEST)):
+        print("judge", p, l, verdict(p, l))

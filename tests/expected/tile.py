@@ -1,0 +1,208 @@
+"""The four tile calls of document 01, worked out from the definition of a good tile and from nothing else.
+
+A tile is the list of its bytes, row by row. That all 2p sums are one byte is a set of 2p linear equations: bytes are added by XOR,
+bit by bit, and so the equations are over GF(2). The unknowns are the bytes of the flagged cells and the one byte that all sums are.
+Gaussian elimination solves them. It tells whether there is a filling; and that the unknowns are settled, so that there is but one,
+is asserted each time. Writing is filling the two check columns, and repair is filling one line after another.
+
+A line is a pair, ("row", r) or ("column", c). An answer is the text that the program prints for it."""
+
+from functools import cache
+
+from expected.sizes import verdict
+
+
+def place(p, i, j):
+    """Where the cell in row i and column j stands."""
+    return i * (p - 1) + j
+
+
+@cache
+def cells_of_lines(p, s):
+    """For each line of slope s, the places of its cells. The cells of the added row and column are left out: they hold zero."""
+    lines = [[] for _ in range(p)]
+    for i in range(p - 1):
+        for j in range(p - 1):
+            lines[(i + s * j) % p].append(place(p, i, j))
+    return lines
+
+
+def sums(p, s, tile):
+    """The sum of each line of slope s."""
+    result = []
+    for cells in cells_of_lines(p, s):
+        total = 0
+        for k in cells:
+            total ^= tile[k]
+        result.append(total)
+    return result
+
+
+def is_good(p, l, tile):
+    """All 2p sums equal one byte."""
+    return len(set(sums(p, 1, tile) + sums(p, l, tile))) == 1
+
+
+@cache
+def places(p, line):
+    """The places of the cells of a row or a column."""
+    kind, n = line
+    if kind == "row":
+        return [place(p, n, j) for j in range(p - 1)]
+    return [place(p, i, n) for i in range(p - 1)]
+
+
+@cache
+def coefficients(p, l, lines):
+    """The left sides of the 2p equations, as bits: bit 0 for the common byte, and one bit for each flagged cell. With each the places
+    of the cells that are not flagged, whose sum is the right side; and the flagged places in the order of their bits."""
+    flagged = sorted({k for line in lines for k in places(p, line)})
+    bit = {k: n + 1 for n, k in enumerate(flagged)}
+    equations = []
+    for cells in cells_of_lines(p, 1) + cells_of_lines(p, l):
+        left = 1
+        for k in cells:
+            if k in bit:
+                left |= 1 << bit[k]
+        equations.append((left, [k for k in cells if k not in bit]))
+    return equations, flagged
+
+
+def eliminate(equations, unknowns):
+    """Solves equations whose left side is a set of bits and whose right side is a byte. Gives the values, or None where the
+    equations contradict each other. Where they settle not every unknown, it stops the script."""
+    pivots = {}
+    contradicted = False
+    for left, right in equations:
+        while left and left.bit_length() - 1 in pivots:
+            pivot_left, pivot_right = pivots[left.bit_length() - 1]
+            left ^= pivot_left
+            right ^= pivot_right
+        if left:
+            pivots[left.bit_length() - 1] = (left, right)
+        elif right:
+            contradicted = True
+    assert len(pivots) == unknowns, "the equations leave a choice"
+    return None if contradicted else back_substituted(pivots, unknowns)
+
+
+def back_substituted(pivots, unknowns):
+    """The values, from the lowest unknown upward: each pivot's equation has its own unknown and lower ones."""
+    values = []
+    for n in range(unknowns):
+        left, value = pivots[n]
+        left ^= 1 << n
+        while left:
+            highest = left.bit_length() - 1
+            value ^= values[highest]
+            left ^= 1 << highest
+        values.append(value)
+    return values
+
+
+def filling(p, l, tile, *lines):
+    """The one good tile that agrees with the tile outside the lines, or None."""
+    equations, flagged = coefficients(p, l, lines)
+    known = []
+    for left, cells in equations:
+        right = 0
+        for k in cells:
+            right ^= tile[k]
+        known.append((left, right))
+    values = eliminate(known, len(flagged) + 1)
+    if values is None:
+        return None
+    filled = list(tile)
+    for n, k in enumerate(flagged):
+        filled[k] = values[n + 1]
+    assert is_good(p, l, filled)
+    return filled
+
+
+def tile_length(p):
+    """How many bytes a tile of size p has."""
+    return (p - 1) ** 2
+
+
+def text_length(p):
+    """How many bytes a text of size p has."""
+    return (p - 1) * (p - 3)
+
+
+def text_of(p, tile):
+    """The bytes of columns 0 to p-4, row by row."""
+    return [tile[place(p, i, j)] for i in range(p - 1) for j in range(p - 3)]
+
+
+def refusal(p, l, lengths_are_right):
+    """Refusal 1, 2 or 3, in that order, or None. Only a size has a length, so the lengths are asked for last."""
+    judged = verdict(p, l)
+    if judged != "taken":
+        return judged
+    return None if lengths_are_right() else "refused 3"
+
+
+def write(p, l, text, tile):
+    """The answer, and the tile afterwards."""
+    no = refusal(p, l, lambda: len(tile) == tile_length(p) and len(text) == text_length(p))
+    if no:
+        return no, tile
+    laid = [0] * tile_length(p)
+    for k, byte in enumerate(text):
+        laid[place(p, k // (p - 3), k % (p - 3))] = byte
+    written = filling(p, l, laid, ("column", p - 3), ("column", p - 2))
+    assert written is not None and text_of(p, written) == list(text)
+    return "done", written
+
+
+def read(p, l, tile, text):
+    """The answer, and the text afterwards."""
+    no = refusal(p, l, lambda: len(tile) == tile_length(p) and len(text) == text_length(p))
+    if no:
+        return no, text
+    return ("done", text_of(p, tile)) if is_good(p, l, tile) else ("refused 5", text)
+
+
+def repair(p, l, tile):
+    """The answer, and the tile afterwards, by trying every column and then every row."""
+    no = refusal(p, l, lambda: len(tile) == tile_length(p))
+    if no:
+        return no, tile
+    if is_good(p, l, tile):
+        return "clean", tile
+    for kind in ("column", "row"):
+        for n in range(p - 1):
+            repaired = filling(p, l, tile, (kind, n))
+            if repaired is not None:
+                return f"{kind} {n}", repaired
+    return "refused 5", tile
+
+
+def fill(p, l, tile, first, second):
+    """The answer, and the tile afterwards. Two rows or two columns must have a filling."""
+    no = refusal(p, l, lambda: len(tile) == tile_length(p))
+    if no:
+        return no, tile
+    if first[1] > p - 2 or second[1] > p - 2:
+        return "refused 4", tile
+    filled = filling(p, l, tile, first, second)
+    if filled is None:
+        assert first == second or first[0] != second[0]
+        return "refused 5", tile
+    return "done", filled
+
+
+def shown(tile, width):
+    """A tile or a text as document 01 shows it: rows parted by a stroke."""
+    rows = [tile[k : k + width] for k in range(0, len(tile), width)]
+    return " / ".join(" ".join(map(str, row)) for row in rows)
+
+
+def parsed(picture, lost=0):
+    """The bytes of what document 01 shows, with `lost` for a question mark."""
+    return [lost if sign == "?" else int(sign) for sign in picture.split() if sign != "/"]
+
+
+def line_text(line):
+    """A line as the program prints it."""
+    return f"{line[0]} {line[1]}"
