@@ -7,7 +7,7 @@
 test:
 	@echo "kit: $$(rt version)"
 	@echo "pinned: $$(cat KIT)"
-	@rt ci
+	@.ci/timed rt ci
 
 check:
 	@rt check $(NAME)

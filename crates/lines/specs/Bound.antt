@@ -5,6 +5,7 @@ use native.Mathlib.Nat.{mul-le-mul, mod-eq-of-lt}
 use native.Mathlib.Omega.{arith}
 use Rattle.residue.specs.Remainder.{before, alike}
 
+-- a product of two numbers that are at most the largest size
 pub product : (a b : ℕ) → a ≤ 257 → b ≤ 257 → a * b ≤ 66049
 product a b h k = mul-le-mul h k
 

@@ -33,6 +33,7 @@ abbrev pub weightOf : ℕ → Line → ℕ
 weightOf l (Row s) = l
 weightOf l (Column v) = 1
 
+-- it is below p, as the slope is
 pub weight-most : (p l : ℕ) (b : Line) → l < p → 1 < p → weightOf l b < p
 weight-most p l (Row s) h k = h
 weight-most p l (Column v) h k = k

@@ -25,17 +25,20 @@ pub data Found (p l : ℕ) (A B x : ℕ → ℕ) : Hurt → Type 0 where
 
 -- ---- only the sums of the lines 0 to p-1 count
 
+-- a line through a cell has a number below p
 through-lt : (p s : ℕ) (a : Line) (k : ℕ) → 0 < p → through p s a k < p
 through-lt p s (Row r) k h = mod-lt _ h
 through-lt p s (Column c) k h = mod-lt _ h
 
 module _ (p l : ℕ) (A B A′ B′ : ℕ → ℕ) (ha : (t : ℕ) → t < p → A t ≡ A′ t) (hb : (t : ℕ) → t < p → B t ≡ B′ t) where
+  -- so sums that are the same there agree along the same lines, and shift to the same change
   agree-sums : (a : Line) → Agree p l A B a → Agree p l A′ B′ a
   agree-sums a g k h = sym (ha _ (through-lt p 1 a k (omega arith))) ∙ g k h ∙ hb _ (through-lt p l a k (omega arith))
 
   shifted-sums : (a : Line) (x : ℕ → ℕ) → Shifted p A a x → Shifted p A′ a x
   shifted-sums a x g k h = g k h ∙ ap₂ _⊕_ (ha _ (through-lt p 1 a k (omega arith))) (ha _ (through-lt p 1 a (p - 1) (omega arith)))
 
+-- and the same is found of them
 pub found-sums : (p l : ℕ) (A B A′ B′ x : ℕ → ℕ) {which : Hurt} → ((t : ℕ) → t < p → A t ≡ A′ t) → ((t : ℕ) → t < p → B t ≡ B′ t)
     → Found p l A B x which → Found p l A′ B′ x which
 found-sums p l A B A′ B′ x ha hb f = go f

@@ -39,6 +39,7 @@ abbrev pub hopsOf : ℕ → Line → ℕ
 hopsOf p (Row s) = p - 1
 hopsOf p (Column v) = p
 
+-- at most one for each row
 pub hops-most : (p : ℕ) (b : Line) → hopsOf p b ≤ p
 hops-most p (Row s) = omega arith
 hops-most p (Column v) = omega arith

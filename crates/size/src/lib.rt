@@ -123,11 +123,17 @@ pub fn takes_size(p: usize) -> bool
     }
 }
 
-// Does the size p allow the slope l? Its powers reach each of 1 to p - 1 where none from the first to the (p - 2)-th is 1.
+// Does the size p allow the slope l? Its powers reach each of 1 to p - 1 where none from the first to the (p - 2)-th is 1. A p
+// that is no size because it is too small or too large allows none.
 fn allows(p: usize, l: usize) -> bool
-    requires { ⌜ Size p ⌝ }
-    ensures { λ r. ⌜ Says r (Allowed p l) ⌝ }
+    ensures { λ r. ⌜ (Size p → Says r (Allowed p l)) ⌝ }
 {
+    if p < 5 {
+        return false;
+    }
+    if 257 < p {
+        return false;
+    }
     if l < 2 {
         return false;
     }

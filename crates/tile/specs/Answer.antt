@@ -16,6 +16,7 @@ pub data Said : Type 0 where
   row : ℕ → Said
   refused : ℕ → Said
 
+-- what write, read and fill answer, and what repair does
 abbrev pub outcomeSaid : Outcome → Said
 outcomeSaid outcome.Done = done
 outcomeSaid (outcome.Refused r) = refused (numberOf r)

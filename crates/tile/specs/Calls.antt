@@ -18,6 +18,7 @@ pub data Admitted (p l : ℕ) (Lengths : Type 0) : size.Said → Type 0 where
   no-length : size.Judged p l size.well → (Lengths → ⊥) → Admitted p l Lengths (size.refused 3)
   admitted : size.Judged p l size.well → Lengths → Admitted p l Lengths size.well
 
+-- the lengths that repair and fill ask for, and those that write and read do
 abbrev pub TileLength : ℕ → List ℕ → Type 0
 TileLength p tile = length tile ≡ tileLength p
 

@@ -35,6 +35,7 @@ module _ (p l : ℕ) (x : List ℕ) (X : ℕ → ℕ) (a : Admitted p l (TileLen
   abbrev pub Found : Hurt → Type 0
   Found which = hurt.Found p l (sum p 1 (cell p x)) (sum p l (cell p x)) X which
 
+  -- where the sums are not one byte the tile is not good
   spoiled : (AllOne p (sum p 1 (cell p x)) (sum p l (cell p x)) → ⊥) → Good p l x → ⊥
   spoiled d g = d (good-one p l x (omega (arith, slope-of a .high)) g)
 
@@ -43,12 +44,14 @@ module _ (p l : ℕ) (x : List ℕ) (X : ℕ → ℕ) (a : Admitted p l (TileLen
       → (number b < p - 1 → Agree p l (sum p 1 (cell p x)) (sum p l (cell p x)) b → ⊥) → Unexplained p l x b
   disagrees b d f = line-unexplained p l b x (slope-of a) (spoiled d) f
 
+  -- the line that was found is one of the tile's
   pub column-in : {c : ℕ} → Found (found.Column c) → c < p - 1
   column-in (hurt.column d h e columns w) = h
 
   pub row-in : {r : ℕ} → Found (found.Row r) → r < p - 1
   row-in (hurt.row d h columns e rows w) = h
 
+  -- nothing was found hurt; a column was, and its change is added; a row; or no line explains it
   pub ends-clean : Found found.Nothing → RepairTold p l x clean x
   ends-clean (hurt.good g) = is-good a (one-good p l x g)
 
@@ -71,6 +74,7 @@ module _ (p l : ℕ) (x : List ℕ) (X : ℕ → ℕ) (a : Admitted p l (TileLen
 
 -- ---- fill
 
+-- both lines' changes are added, where there are such; or there are none
 pub ends-filled : (p l : ℕ) (b c : Line) (X Y : ℕ → ℕ) (x y z : List ℕ) → Admitted p l (TileLength p x) size.well → Has p b × Has p c
     → SettledBy p l b c (sum p 1 (cell p x)) (sum p l (cell p x)) X Y → length y ≡ length x → length z ≡ length y
     → Added p (along b X) x y → Added p (along c Y) y z → FillTold p l x b c done z
@@ -83,6 +87,7 @@ ends-unfilled p l b c x a h n = none a (h .0) (h .1) (lines-unfilled p l b c x n
 
 -- ---- write
 
+-- the text is laid in, and the check columns' changes are added
 pub ends-written : (p l : ℕ) (X Y A B : ℕ → ℕ) (text x y z w : List ℕ) → Admitted p l (BothLengths p x text) size.well → Laid p text x y
     → ((t : ℕ) → t < p → A t ≡ sum p 1 (cell p y) t) → ((t : ℕ) → t < p → B t ≡ sum p l (cell p y) t)
     → SettledBy p l (Column (p - 3)) (Column (p - 2)) A B X Y

@@ -189,7 +189,7 @@ writing text tile =
     so (both (equal (length tile) (tileLength 5)) (both (good tile) (same (textOf 5 tile) text))) (λ t.
     record { size = t .0; good = t .1 .0; has = t .1 .1 })
 
--- the test of a case, and of a list of cases
+-- the test of a case
 tested : (c : Case) → Test (Claim c)
 tested (writes text tile b) = so (both (writing text tile) (equal (sumOf tile 1 0) b)) (λ t. (
   λ lent e. exactly (WriteTold 5 2 text lent) (write-told-once 5 2 text lent) done tile
@@ -205,6 +205,7 @@ tested (repairs tile said new) =
 tested (fills tile a b said new) =
     so (admitted-tile tile (filled tile a b said new)) (exactly (FillTold 5 2 tile a b) (fill-told-once 5 2 tile a b) said new)
 
+-- the test of a list of cases
 each : (cs : List Case) → Test (Each cs)
 each [] = record { pass = true; shows = λ h. tt }
 each (c ∷ cs) = both (tested c) (each cs)

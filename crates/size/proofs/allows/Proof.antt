@@ -17,13 +17,19 @@ abbrev μ-loop : tie.MeasureT-loop
 μ-loop p l power₀ i₀ power i = p - i
 
 returns : tie.Need-returns Inv-loop μ-loop
-returns c = λ a. omega (arith, a .low)
-
-sub-if2 : tie.Need-sub-if2 Inv-loop μ-loop
-sub-if2 c = omega arith
+returns c = λ s a. omega (arith, s .low)
 
 returns-2 : tie.Need-returns-2 Inv-loop μ-loop
-returns-2 c = λ a. omega (arith, a .high)
+returns-2 c = λ s a. omega (arith, s .high)
+
+returns-3 : tie.Need-returns-3 Inv-loop μ-loop
+returns-3 c = λ s a. omega (arith, a .low)
+
+sub-if4 : tie.Need-sub-if4 Inv-loop μ-loop
+sub-if4 c = omega arith
+
+returns-4 : tie.Need-returns-4 Inv-loop μ-loop
+returns-4 c = λ s a. omega (arith, a .high)
 
 loop-holds : tie.Need-loop-holds Inv-loop μ-loop
 loop-holds c = (omega arith, omega arith, first-power _ _ (omega arith), λ k h i e. omega arith)
@@ -31,18 +37,16 @@ loop-holds c = (omega arith, omega arith, first-power _ _ (omega arith), λ k h 
 add-loop : tie.Need-add-loop Inv-loop μ-loop
 add-loop c = omega arith
 
-returns-3 : tie.Need-returns-3 Inv-loop μ-loop
-returns-3 c = λ a.
+returns-5 : tie.Need-returns-5 Inv-loop μ-loop
+returns-5 c = λ s a.
     let at = c .before .before .loop in
-    reaches-no-return _ _ (c .before .before .before .before .before .pre .prime) (a .reach) (at .i) (omega arith) (omega arith)
-    (sym (at .inv .2) ∙ c .if3 .taken)
+    reaches-no-return _ _ (s .prime) (a .reach) (at .i) (omega arith) (omega arith) (sym (at .inv .2) ∙ c .if5 .taken)
 
 mul-power : tie.Need-mul-power Inv-loop μ-loop
 mul-power c =
-    let p = c .before .before .before .before .before .args .p in
-    let l = c .before .before .before .before .before .args .l in
-    let power : c .before .before .loop .power ≤ 257 = omega (arith, mod-lt (l ^ c .before .before .loop .i) {m = p} (omega arith)) in
-    let slope : l ≤ 257 = omega arith in
+    let a = c .before .before .before .before .before .before .before .args in
+    let power : c .before .before .loop .power ≤ 257 = omega (arith, mod-lt (a .l ^ c .before .before .loop .i) {m = a .p} (omega arith)) in
+    let slope : a .l ≤ 257 = omega arith in
     omega (arith, mul-le-mul power slope)
 
 rem-power : tie.Need-rem-power Inv-loop μ-loop
@@ -57,16 +61,14 @@ loop-less c = omega arith
 loop-again : tie.Need-loop-again Inv-loop μ-loop
 loop-again c =
     let inv = c .before .before .loop .inv in
-    (omega arith, omega arith, next-power _ _ _ _ (inv .2), below-more _ _ (inv .3) (λ h e. c .if3 .left (inv .2 ∙ e)))
+    (omega arith, omega arith, next-power _ _ _ _ (inv .2), below-more _ _ (inv .3) (λ h e. c .if5 .left (inv .2 ∙ e)))
 
-returns-4 : tie.Need-returns-4 Inv-loop μ-loop
-returns-4 c =
-    let pre = c .before .before .before .before .pre in
-    record {
-      low = omega arith;
-      high = omega arith;
-      reach = no-return-reaches _ _ (pre .prime) (below-pos _ _ (omega arith) (omega arith)) (λ k h lt. c .before .loop .inv .3 k (omega arith) h);
-    }
+returns-6 : tie.Need-returns-6 Inv-loop μ-loop
+returns-6 c = λ s. record {
+  low = omega arith;
+  high = omega arith;
+  reach = no-return-reaches _ _ (s .prime) (below-pos _ _ (omega arith) (omega arith)) (λ k h lt. c .before .loop .inv .3 k (omega arith) h);
+}
 
 pub allows-spec : {M : Type 1} → statement M
-allows-spec = tie.close (tie.spec Inv-loop μ-loop returns sub-if2 returns-2 loop-holds add-loop returns-3 mul-power rem-power add-i loop-less loop-again returns-4)
+allows-spec = tie.close (tie.spec Inv-loop μ-loop returns returns-2 returns-3 sub-if4 returns-4 loop-holds add-loop returns-5 mul-power rem-power add-i loop-less loop-again returns-6)

@@ -9,17 +9,17 @@ takes-size-requires : tie.Need-takes-size-requires
 takes-size-requires c κs = search needs
 
 allows-requires : tie.Need-allows-requires
-allows-requires c κs = says-true (c .before .takes-size .ensures) (c .if1 .taken)
+allows-requires c κs = search needs
 
 returns : tie.Need-returns
 returns c =
     let size = says-true (c .before .before .before .takes-size .ensures) (c .before .before .if1 .taken) in
-    taken size (says-true (c .before .allows .ensures) (c .if2 .taken))
+    taken size (says-true (c .before .allows .ensures size) (c .if2 .taken))
 
 returns-2 : tie.Need-returns-2
 returns-2 c =
     let size = says-true (c .before .before .before .takes-size .ensures) (c .before .before .if1 .taken) in
-    no-slope size (says-false (c .before .allows .ensures) (c .if2 .left))
+    no-slope size (says-false (c .before .allows .ensures size) (c .if2 .left))
 
 returns-3 : tie.Need-returns-3
 returns-3 c = no-size (says-false (c .before .takes-size .ensures) (c .if1 .left))
