@@ -26,6 +26,7 @@ pub fn explaining(
         if c == end {
             break 'columns end;
         }
+        // the lines of slope 1 and of slope l through cell i of column c
         let mut t = c;
         let mut u = l * c % p;
         let mut i = 0;

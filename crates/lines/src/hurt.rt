@@ -38,7 +38,7 @@ pub fn find(p: usize, l: usize, tile: &[u8]) -> Finding
     explain(p, l, &a, &b)
 }
 
-// The line that explains the sums a and b: columns from 0 upward, then rows, which are columns of the turned tile.
+// The line that explains the sums a and b: columns from 0 upward, then rows.
 fn explain(p: usize, l: usize, a: &[u8; 257], b: &[u8; 257]) -> Finding
     requires { ⌜ Slope p l ⌝ }
     requires { ⌜ p ≤ 257 ⌝ }
@@ -50,6 +50,7 @@ fn explain(p: usize, l: usize, a: &[u8; 257], b: &[u8; 257]) -> Finding
             change: zeros(),
         };
     }
+    // rows are columns of the turned tile
     let m = turn::inverse(p, l);
     let sums = turn::turned(p, l, b);
     let turned = &sums;

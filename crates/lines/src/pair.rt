@@ -45,6 +45,7 @@ pub fn solve(pair: Pair, a: &[u8; 257], b: &[u8; 257]) -> Changes
     let mut x = [0u8; 257];
     let mut y = along(p, line, a);
     let base = through(p, l, line, 0);
+    // each hop fills a symbol of the second line, and each but the last one of the column
     let unfilled = 2 * hops(p, line) - 1;
     to_line(
         p,
