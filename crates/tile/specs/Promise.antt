@@ -8,7 +8,7 @@ use native.Mathlib.Omega.{arith}
 use lib.ListN.{length}
 use Rattle.code.specs.Size.{Size, Allowed}
 use Rattle.code.specs.Slope.{allowed-slope}
-use Rattle.code.specs.Tile.{tileLength, textLength, Good, textOf, EqualOutside, EqualOutsideBoth}
+use Rattle.code.specs.Tile.{tileLength, textLength, Good, textOf, EqualOutside, EqualOutsideBoth, Fills}
 use Rattle.code.specs.OneLine.{number}
 use Rattle.code.specs.Distance.{Parallel, distance}
 use Rattle.code.specs.Filling.{parallel-filled}
@@ -74,6 +74,28 @@ pub fill-flagged : (p l : ℕ) (a b : Line) (x tile : List ℕ) (said : Said) (n
 fill-flagged p l a b x tile said new s w ex e g ha hb same t =
     fill-told-once p l tile a b said done new x t
     (FillTold.fills (admits s w e) ha hb (record { size = ex; good = g; agrees = λ i j hi hj d q. sym (same i j hi hj d q) }))
+
+-- a filling of x is one of y, where x and y are equal outside the flagged lines ..
+fills-alike : (p l : ℕ) (a b : Line) (x y z : List ℕ) → EqualOutsideBoth p a b x y → Fills p l a b x z → Fills p l a b y z
+fills-alike p l a b x y z same f = record { size = f .size; good = f .good; agrees = λ i j hi hj d q. sym (same i j hi hj d q) ∙ f .agrees i j hi hj d q }
+
+-- .. so the bytes of those lines are ignored: both get one answer, and where it is Done one tile
+pub fill-ignores : (p l : ℕ) (a b : Line) (x y : List ℕ) (said said′ : Said) (new new′ : List ℕ) → length x ≡ length y → EqualOutsideBoth p a b x y
+    → FillTold p l x a b said new → FillTold p l y a b said′ new′ → (said ≡ said′) × (said ≡ done → new ≡ new′)
+fill-ignores p l a b x y said said′ new new′ e same t u = known (also t)
+  where
+    known : (z : List ℕ) × FillTold p l y a b said z × (said ≡ done → new ≡ z) → (said ≡ said′) × (said ≡ done → new ≡ new′)
+    known v = let q = fill-told-once p l y a b said said′ (v .0) new′ (v .1) u in (q .0, λ d. v .2 d ∙ q .1)
+
+    never : {n : ℕ} {A : Type 0} → refused n ≡ done → A
+    never d = absurd (let z : _≡_ {A = ℕ} 0 1 = cc in omega arith)
+
+    also : {said : Said} {new : List ℕ} → FillTold p l x a b said new → (z : List ℕ) × FillTold p l y a b said z × (said ≡ done → new ≡ z)
+    also (FillTold.refuses h) = (y, FillTold.refuses (rw e at h), never)
+    also (FillTold.no-line h f) = (y, FillTold.no-line (rw e at h) f, never)
+    also (FillTold.none h ha hb f) =
+        (y, FillTold.none (rw e at h) ha hb (λ z g. f z (fills-alike p l a b y x z (λ i j hi hj d q. sym (same i j hi hj d q)) g)), never)
+    also (FillTold.fills {new} h ha hb f) = (new, FillTold.fills (rw e at h) ha hb (fills-alike p l a b x y new same f), λ d. refl)
 
 -- two rows, or two columns, always have a filling
 pub fill-parallel : (p l : ℕ) (tile : List ℕ) (a b : Line) (said : Said) (new : List ℕ) → Size p → Allowed p l
