@@ -1,20 +1,20 @@
 -- WHAT THE PROMISES MEAN FOR A USER: what was written is read again, one hurt line is repaired, flagged lines are filled, and a call that
 -- refuses changes no byte; for every size and slope. Assumes nothing.
-use mathlib.Core.Path.{_≡_, refl, sym, _∙_}
+use mathlib.Core.Path.{_≡_, refl, sym, ap, _∙_}
 use mathlib.Core.Logic.{_≢_}
 use mathlib.Core.List.{List}
-use Prim.Native.Nat.{ℕ}
+use Prim.Native.Nat.{ℕ, _-_, _<_}
 use native.Mathlib.Omega.{arith}
 use lib.ListN.{length}
 use Rattle.code.specs.Size.{Size, Allowed}
 use Rattle.code.specs.Slope.{allowed-slope}
-use Rattle.code.specs.Tile.{tileLength, textLength, Good, textOf, EqualOutside, EqualOutsideBoth, Fills}
+use Rattle.code.specs.Tile.{tileLength, cell, textLength, Good, textOf, On, EqualOutside, EqualOutsideBoth, Fills}
 use Rattle.code.specs.OneLine.{number}
 use Rattle.code.specs.Distance.{Parallel, distance}
 use Rattle.code.specs.Filling.{parallel-filled}
 use Rattle.code.specs.declared.Line.{Line}
 use Rattle.code.specs.declared.Line.the-variants.{Row, Column}
-use Rattle.tile.specs.Answer.{Said, done, clean, refused}
+use Rattle.tile.specs.Answer.{Said, done, clean, column, refused}
 use Rattle.tile.specs.Calls.{WriteTold, ReadTold, Explains, RepairTold, Has, FillTold}
 use Rattle.tile.specs.Admit.{admits, admitted-well, admitted-no}
 use Rattle.tile.specs.Explain.{good-explains}
@@ -64,6 +64,23 @@ repair-one-line p l a x tile said new s w ex e g same told = (repaired told, λ 
     not-refused : {n : ℕ} {new : List ℕ} → RepairTold p l tile (refused n) new → ⊥
     not-refused (RepairTold.refuses h) = admitted-no h (s, w, e)
     not-refused (RepairTold.by-none h f) = f a x (itself p l a x tile ex g same)
+
+-- a lone damaged cell is reported as its column, though its row explains it too
+pub repair-one-cell : (p l i c : ℕ) (x tile : List ℕ) (said : Said) (new : List ℕ) → Size p → Allowed p l
+    → length x ≡ tileLength p → length tile ≡ tileLength p → Good p l x → i < p - 1 → c < p - 1 → cell p tile i c ≢ cell p x i c
+    → ((r k : ℕ) → r < p - 1 → k < p - 1 → ((r ≡ i) × (k ≡ c) → ⊥) → cell p x r k ≡ cell p tile r k)
+    → RepairTold p l tile said new → (said ≡ column c) × (new ≡ x)
+repair-one-cell p l i c x tile said new s w ex e g hi hc hurt same told =
+    repair-told-once p l tile said (column c) new x told
+    (RepairTold.by-column (admits s w e) (λ f. differs (Row (p - 1)) tile (good-explains p l (Row (p - 1)) tile e f) (omega arith))
+    (itself p l (Column c) x tile ex g outside) (λ k h y f. differs (Column k) y f (omega arith)))
+  where
+    outside : EqualOutside p (Column c) x tile
+    outside r k hr hk d = same r k hr hk (λ q. d (q .1))
+
+    -- a line that the cell is not on does not explain it
+    differs : (a : Line) (y : List ℕ) → Explains p l a tile y → (On a i c → ⊥) → ⊥
+    differs a y f off = hurt (f .same i c hi hc off ∙ ap (λ (z : List ℕ). cell p z i c) (no-other p l (Column c) x tile ex g outside s w a y f))
 
 -- ---- fill
 
