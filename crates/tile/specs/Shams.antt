@@ -72,6 +72,10 @@ written-2 = claimed 2 .0 zeros refl
 pub copies-text : WriteTold 5 2 text-1 zeros done copied-1 → ⊥
 copies-text = wrong-bytes (WriteTold 5 2 text-1 zeros) written-1 done copied-1 (λ e. cc)
 
+-- a writer that makes a good tile with another text
+pub other-text : WriteTold 5 2 text-1 zeros done tile-2 → ⊥
+other-text = wrong-bytes (WriteTold 5 2 text-1 zeros) written-1 done tile-2 (λ e. cc)
+
 -- a reader that always gives the same text
 pub same-text : (page text : List ℕ) (said : Said) → length page ≡ textLength 5
     → ReadTold 5 2 tile-1 page said text → ReadTold 5 2 tile-2 page said text → ⊥
