@@ -66,7 +66,7 @@ FromLine p c n base weight back A B j unfilled x y x′ y′ =
 
 -- ---- the places that the two functions find are those of the hops
 
-module _ (p l c : ℕ) (b : Line) (n : ℕ) (walk stop : ℕ → ℕ) (hops : Hops p l c b n walk stop) (some : 0 < p) (c-lt : c < p) where
+module _ (p l c : ℕ) (b : Line) (n : ℕ) (walk stop : ℕ → ℕ) (hops : Hops p l c b n walk stop) (some : 0 < p) where
   -- the cell of the second line on the slope-1 line through the k-th cell of the column
   there : (k : ℕ) → before p (number b) ((walk k + c) % p) ≡ stop k
   there k =
@@ -133,20 +133,20 @@ module _ (p l c : ℕ) (b : Line) (n : ℕ) (walk stop : ℕ → ℕ) (hops : Ho
 stored : (out : List ℕ) (k v m : ℕ) → k < length out → m ≡ k → held (set out k v) m ≡ v
 stored out k v m h e = rw e (getD-set-same out k v 0 h)
 
-module _ (p c n base weight back : ℕ) (A B : ℕ → ℕ) (unfilled : ℕ) (x′ y′ : ℕ → ℕ) (c-lt : c < p) where
+module _ (p c n base weight back : ℕ) (A B : ℕ → ℕ) (unfilled : ℕ) (x′ y′ : ℕ → ℕ) (some : 0 < p) where
   -- nothing is unfilled
   pub no-line : (i : ℕ) (x y : ℕ → ℕ) → unfilled ≡ 0 → FromColumn p c n base weight back A B i unfilled x y x y
   no-line i x y z l b leads m walk stop k hops e q = omega arith
 
   pub no-column : (j : ℕ) (x y : ℕ → ℕ) → unfilled ≡ 0 → FromLine p c n base weight back A B j unfilled x y x y
-  no-column j x y z l b leads m walk stop k hops e q = all-filled p l c b m walk stop hops (omega arith) c-lt A B k x y x y (omega arith)
+  no-column j x y z l b leads m walk stop k hops e q = all-filled p l c b m walk stop hops some A B k x y x y (omega arith)
 
   -- cell i of the column gives cell j of the second line
   pub line-turn : (x : ℕ → ℕ) (y : List ℕ) (i j t : ℕ) → (unfilled ≡ 0 → ⊥) → t ≡ (i + c) % p → j ≡ before p n t → j < length y
       → FromLine p c n base weight back A B j (unfilled - 1) x (held (set y j (bitXor (A t) (x i)))) x′ y′
       → FromColumn p c n base weight back A B i unfilled x (held y) x′ y′
   line-turn x y i j t more et ej lt o l b leads m walk stop k hops e q =
-      line-filled p l c b m walk stop hops (omega arith) c-lt A B k x (held y) x′ y′ (held (set y j (bitXor (A t) (x i)))) (omega arith)
+      line-filled p l c b m walk stop hops some A B k x (held y) x′ y′ (held (set y j (bitXor (A t) (x i)))) (omega arith)
       (stored y j _ (stop k) lt (sym at) ∙ ⊕-is (A t) (x i) ∙ ap₂ _⊕_ (ap A (et ∙ ap (λ (w : ℕ). (w + c) % p) (sym e) ∙ same p (omega arith))) (ap x (sym e)))
       (λ w d. getD-set-other y j w _ 0 (λ f. d (f ∙ at)))
       (o l b leads m walk stop k hops (sym at) (omega arith))
@@ -154,14 +154,14 @@ module _ (p c n base weight back : ℕ) (A B : ℕ → ℕ) (unfilled : ℕ) (x�
       at : j ≡ stop k
       at =
           ej ∙ ap (λ (w : ℕ). before p w t) (leads .line) ∙ ap (before p (number b)) (et ∙ ap (λ (w : ℕ). (w + c) % p) (sym e))
-          ∙ there p l c b m walk stop hops (omega arith) c-lt k
+          ∙ there p l c b m walk stop hops some k
 
   -- cell j of the second line gives cell i of the column
   pub column-turn : (x : List ℕ) (y : ℕ → ℕ) (i j t : ℕ) → (unfilled ≡ 0 → ⊥) → t ≡ (base + weight * j) % p → i ≡ before p back t → i < length x
       → FromColumn p c n base weight back A B i (unfilled - 1) (held (set x i (bitXor (B t) (y j)))) y x′ y′
       → FromLine p c n base weight back A B j unfilled (held x) y x′ y′
   column-turn x y i j t more et ei lt o l b leads m walk stop k hops e q =
-      column-filled p l c b m walk stop hops (omega arith) c-lt A B k (held x) y x′ y′ (held (set x i (bitXor (B t) (y j)))) (omega arith)
+      column-filled p l c b m walk stop hops some A B k (held x) y x′ y′ (held (set x i (bitXor (B t) (y j)))) (omega arith)
       (stored x i _ (walk (k + 1)) lt (sym at) ∙ ⊕-is (B t) (y j) ∙ ap₂ _⊕_ (ap B (is ∙ hops .second k)) (ap y (sym e)))
       (λ w d. getD-set-other x i w _ 0 (λ f. d (f ∙ at)))
       (o l b leads m walk stop (k + 1) hops (sym at) (omega arith))
@@ -172,7 +172,7 @@ module _ (p c n base weight back : ℕ) (A B : ℕ → ℕ) (unfilled : ℕ) (x�
       at : i ≡ walk (k + 1)
       at =
           ei ∙ ap (λ (w : ℕ). (t + (p - w)) % p) (ap (λ (w : ℕ). w % p) (leads .returns) ∙ mod-mod (l * c) p) ∙ ap (before p (l * c)) is
-          ∙ back-to p l c b m walk stop hops (omega arith) c-lt k
+          ∙ back-to p l c b m walk stop hops some k
 
 -- the numbers that the chain starts with
 pub leads : (p l c : ℕ) (b : Line) → Leads p l c b (number b) (through p l b 0) (weightOf l b) (l * c % p)

@@ -3,7 +3,7 @@ use code::Line;
 ghost use mathlib.Core.Path.{_≡_};
 ghost use Prim.Native.Nat.{ℕ, _+_, _-_, _*_, _≤_, _<_};
 ghost use lib.ListN.{length};
-ghost use Rattle.code.specs.Tile.{cell, tileLength};
+ghost use Rattle.code.specs.Tile.{tileLength};
 ghost use Rattle.code.specs.OneLine as law;
 ghost use Rattle.lines.specs.Held.{held};
 ghost use Rattle.lines.specs.Change.{Added, RunAdded};

@@ -2,8 +2,7 @@
 use crate::index::number;
 use crate::index::step;
 use code::Line;
-ghost use mathlib.Core.Path.{_≡_};
-ghost use Prim.Native.Nat.{ℕ, _+_, _-_, _≤_, _<_};
+ghost use Prim.Native.Nat.{_+_, _-_, _≤_, _<_};
 ghost use Rattle.code.specs.OneLine as law;
 ghost use Rattle.lines.specs.Held.{held};
 ghost use Rattle.lines.specs.Column.{FirstColumn, Along, TakenOff, Shifted};

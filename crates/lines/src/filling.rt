@@ -9,7 +9,7 @@ use crate::turn;
 use code::Line;
 ghost use mathlib.Core.Path.{_≡_};
 ghost use mathlib.Core.Bool.{false};
-ghost use Prim.Native.Nat.{ℕ, _-_, _≤_, _<_};
+ghost use Prim.Native.Nat.{_-_, _≤_, _<_};
 ghost use lib.ListN.{length};
 ghost use Rattle.xor.specs.Sum.{xorBelow};
 ghost use Rattle.residue.specs.Power.{ReachesAll};

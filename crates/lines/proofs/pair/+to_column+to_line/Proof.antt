@@ -48,7 +48,7 @@ to-column-returns : (t : ℕ) → to-column-lts.Need-returns (
 ) (to-column-at t) to-column.Post
 to-column-returns t c =
     let start = c .before in
-    no-column _ _ _ _ _ _ _ _ _ (λ k. 0) (λ k. 0) (start .pre .1 .0 .column) _ _ _ (c .if1 .taken)
+    no-column _ _ _ _ _ _ _ _ _ (λ k. 0) (λ k. 0) (omega (arith, start .pre .1 .0 .column)) _ _ _ (c .if1 .taken)
 
 to-column-mul-t : (t : ℕ) → to-column-lts.Need-mul-t (
   before-reads.Asked,
@@ -152,7 +152,7 @@ to-column-returns-2 : (t : ℕ) → to-column-lts.Need-returns-2 (
 ) (to-column-at t) to-column.Post
 to-column-returns-2 t c =
     let start = c .before .before .before .before .before .before .before in
-    column-turn _ _ _ _ _ _ _ _ _ _ _ (start .pre .1 .0 .column) (start .args .x .now) _ _ _ _ (c .before .before .before .before .before .before .if1 .left) refl (c .before .before .before .before .before .before2 .ensures .0)
+    column-turn _ _ _ _ _ _ _ _ _ _ _ (omega (arith, start .pre .1 .0 .column)) (start .args .x .now) _ _ _ _ (c .before .before .before .before .before .before .if1 .left) refl (c .before .before .before .before .before .before2 .ensures .0)
     (omega arith) (c .to-line .ensures)
 
 to-line-returns : (t : ℕ) → to-line-lts.Need-returns (
@@ -165,7 +165,7 @@ to-line-returns : (t : ℕ) → to-line-lts.Need-returns (
 ) (to-line-at t) to-line.Post
 to-line-returns t c =
     let start = c .before in
-    no-line _ _ _ _ _ _ _ _ _ (λ k. 0) (λ k. 0) (start .pre .1 .0 .column) _ _ _ (c .if1 .taken)
+    no-line _ _ _ _ _ _ _ _ _ (λ k. 0) (λ k. 0) (omega (arith, start .pre .1 .0 .column)) _ _ _ (c .if1 .taken)
 
 to-line-step-requires : (t : ℕ) → to-line-lts.Need-step-requires (
   step-reads.Asked,
@@ -263,7 +263,7 @@ to-line-returns-2 : (t : ℕ) → to-line-lts.Need-returns-2 (
 ) (to-line-at t) to-line.Post
 to-line-returns-2 t c =
     let start = c .before .before .before .before .before .before .before .before in
-    line-turn _ _ _ _ _ _ _ _ _ _ _ (start .pre .1 .0 .column) _ (start .args .y .now) _ _ _ (c .before .before .before .before .before .before .before .if1 .left) (c .before .before .before .before .before .before .step .ensures .is)
+    line-turn _ _ _ _ _ _ _ _ _ _ _ (omega (arith, start .pre .1 .0 .column)) _ (start .args .y .now) _ _ _ (c .before .before .before .before .before .before .before .if1 .left) (c .before .before .before .before .before .before .step .ensures .is)
     (c .before .before .before .before .before .before2 .ensures .0) (omega arith) (c .to-column .ensures)
 
 pub +to-column+to-line-spec : {M : Type 1} → statement M
