@@ -1,9 +1,9 @@
 -- A test that antt computes at each number below a bound, and the law that carries it to each. Assumes nothing.
 use mathlib.Core.Bool.{Bool, true, false, _&&_}
-use Prim.Native.Nat.{ℕ, zero, suc, _<_}
-use native.Mathlib.Nat.{eq-or-lt-of-le, le-of-suc-le-suc, not-suc-le-zero, lt-suc-self, le-step}
 use mathlib.Core.Path.{subst, sym}
 use mathlib.Core.Logic.{⊎-elim}
+use Prim.Native.Nat.{ℕ, zero, suc, _<_}
+use native.Mathlib.Nat.{eq-or-lt-of-le, le-of-suc-le-suc, not-suc-le-zero, lt-suc-self, le-step}
 use lib.Dec.{T}
 
 pub and-left : (a b : Bool) → T (a && b) → T a

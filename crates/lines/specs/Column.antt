@@ -4,8 +4,8 @@ use mathlib.Core.Logic.{⊎-elim}
 use Prim.Native.Nat.{ℕ, _+_, _-_, _*_, _%_, _≤_, _<_}
 use native.Mathlib.Nat.{mod-add-mod, eq-or-lt-of-le}
 use native.Mathlib.Omega.{arith}
-use Rattle.residue.specs.Remainder.{same}
 use Rattle.xor.specs.Xor.{_⊕_}
+use Rattle.residue.specs.Remainder.{same}
 use Rattle.code.specs.Tile.{line}
 use Rattle.code.specs.OneLine.{through, Agree, shifted}
 use Rattle.code.specs.declared.Line.{Line}

@@ -7,7 +7,7 @@ use native.Mathlib.Decide.{ℕ-discrete}
 use native.Mathlib.Omega.{arith}
 use lib.ListN.{length, set}
 use lib.Seq.{getD-set-same, getD-set-other}
-use Rattle.residue.specs.Remainder.{same}
+use Rattle.residue.specs.Remainder.{same, same-step}
 use Rattle.code.specs.OneLine.{number, through}
 use Rattle.code.specs.declared.Line.{Line}
 use Rattle.code.specs.declared.Line.the-variants.{Row, Column}
@@ -34,3 +34,8 @@ begins p b s h = sym (same p (omega arith) ∙ mod-eq-of-lt h)
 pub from-number : (p : ℕ) (a : Line) (k : ℕ) → (number a + 1 * k) % p ≡ through p 1 a k
 from-number p (Row r) k = refl
 from-number p (Column c) k = same p (omega arith)
+
+-- a slope-1 line meets a line in one cell
+pub through-once : (p : ℕ) (b : Line) (j k : ℕ) → j < p → k < p → through p 1 b j ≡ through p 1 b k → j ≡ k
+through-once p b j k hj hk e =
+    same-step p (number b) j k hj hk (same p (omega arith) ∙ from-number p b j ∙ e ∙ sym (from-number p b k) ∙ same p (omega arith))

@@ -16,7 +16,7 @@ use Rattle.code.specs.Pair.{Hops}
 use Rattle.code.specs.declared.Line.{Line}
 use Rattle.code.specs.declared.Line.the-variants.{Row, Column}
 use Rattle.lines.specs.Held.{held}
-use Rattle.lines.specs.Fill.{from-number}
+use Rattle.lines.specs.Fill.{from-number, through-once}
 
 -- the numbers by which the chain finds its way, and a place in one of the two lines
 pub record Places (p c n base weight back place : ℕ) : Type 0 where
@@ -70,9 +70,8 @@ module _ (p l c : ℕ) (b : Line) (n : ℕ) (walk stop : ℕ → ℕ) (hops : Ho
   -- the cell of the second line on the slope-1 line through the k-th cell of the column
   there : (k : ℕ) → before p (number b) ((walk k + c) % p) ≡ stop k
   there k =
-      same-step p (number b) _ _ (before-lt p (number b) _ some) (hops .cell k)
-      (before-step p (number b) ((walk k + c) % p) (mod-lt _ some)
-      ∙ same p (omega arith) ∙ sym (hops .first k) ∙ sym (from-number p b (stop k)) ∙ same p (omega arith))
+      through-once p b _ _ (before-lt p (number b) _ some) (hops .cell k)
+      (sym (from-number p b _) ∙ same p (omega arith) ∙ before-step p (number b) ((walk k + c) % p) (mod-lt _ some) ∙ same p (omega arith) ∙ sym (hops .first k))
 
   -- the cell of the column on the slope-l line through the k-th stop
   back-to : (k : ℕ) → before p (l * c) (through p l b (stop k)) ≡ walk (k + 1)

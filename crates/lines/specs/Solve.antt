@@ -5,7 +5,6 @@ use Prim.Native.Nat.{ℕ, _+_, _-_, _*_, _%_, _≤_, _<_}
 use native.Mathlib.Decide.{ℕ-discrete}
 use native.Mathlib.Omega.{arith}
 use Rattle.xor.specs.Xor.{_⊕_, xors, self, zero-r}
-use Rattle.residue.specs.Remainder.{same, same-step}
 use Rattle.code.specs.Slope.{Slope, slope-inverse}
 use Rattle.code.specs.Tile.{Cells, line}
 use Rattle.code.specs.Sums.{Padded, plus}
@@ -15,7 +14,7 @@ use Rattle.code.specs.Pair.{ZeroOffBoth, Hops, left, change, left-crossing, fir
 use Rattle.code.specs.Existence.{Closing, by-chain}
 use Rattle.code.specs.declared.Line.{Line}
 use Rattle.code.specs.declared.Line.the-variants.{Row, Column}
-use Rattle.lines.specs.Fill.{from-number}
+use Rattle.lines.specs.Fill.{through-once}
 use Rattle.lines.specs.Column.{Along, TakenOff}
 use Rattle.lines.specs.Hand.{Onward, weightOf, leads, FromColumn}
 
@@ -51,11 +50,6 @@ pub record Closes (p l c : ℕ) (b : Line) (A B : ℕ → ℕ) : Type 0 where
   pub closing : Closing p l c b A B (hopsOf p b) walk stop
 
 -- ---- the chain settles the sums
-
--- a slope-1 line meets a line in one cell
-through-once : (p : ℕ) (b : Line) (j k : ℕ) → j < p → k < p → through p 1 b j ≡ through p 1 b k → j ≡ k
-through-once p b j k hj hk e =
-    same-step p (number b) j k hj hk (same p (omega arith) ∙ from-number p b j ∙ e ∙ sym (from-number p b k) ∙ same p (omega arith))
 
 -- what the chain has filled, from zeros in the column and the sums along the second line, settles the sums once the common byte is taken off
 pub chain-settled : (p l c : ℕ) (b : Line) (A B x y x′ y′ w : ℕ → ℕ) → Slope p l → Closes p l c b A B → c < p → number b < p

@@ -23,7 +23,7 @@ abbrev pub TileLength : ℕ → List ℕ → Type 0
 TileLength p tile = length tile ≡ tileLength p
 
 abbrev pub BothLengths : ℕ → List ℕ → List ℕ → Type 0
-BothLengths p tile text = (length tile ≡ tileLength p) × (length text ≡ textLength p)
+BothLengths p tile text = TileLength p tile × (length text ≡ textLength p)
 
 -- WRITE. "from text, the one good tile with that text"
 pub data WriteTold (p l : ℕ) (text tile : List ℕ) : Said → List ℕ → Type 0 where

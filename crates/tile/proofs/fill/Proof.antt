@@ -1,12 +1,12 @@
 -- `tile::fill` meets its contract. Assumes nothing.
 use mathlib.Core.Path.{_∙_}
 use native.Mathlib.Omega.{arith}
+use borrow.Author.Needs.{needs}
 use Rattle.size.specs.Told.{says-true, says-false}
 use Rattle.lines.specs.Held.{held}
 use Rattle.tile.specs.Calls.{refuses, no-line}
 use Rattle.tile.specs.Admit.{admitted-well}
 use Rattle.tile.specs.Finish.{slope-of, ends-filled, ends-unfilled}
-use borrow.Author.Needs.{needs}
 use Rattle.tile.proofs.fill.Statement.{statement}
 use Rattle.tile.proofs.fill.Tie as tie
 
@@ -24,22 +24,28 @@ has-both-requires c κs = search needs
 
 solve-requires : tie.Need-solve-requires
 solve-requires c κs =
-    let a = rw (c .before .before .before .enum-told .given .1) at (c .before .before .before .before .before .judge-tile .ensures) in
+    let told = c .before .before .before in
+    let a = rw (told .enum-told .given .1) at (told .before .before .judge-tile .ensures) in
     let w = admitted-well a in
     let h = says-true (c .before .before .has-both .ensures) (c .before .if1 .taken) in
     (slope-of a, (w .1 .reach, (w .0 .high, w .2, omega arith, omega arith)))
 
 add-line-requires : tie.Need-add-line-requires
 add-line-requires c κs =
-    let w = admitted-well (rw (c .before .before .before .before .before .before .before .before .before .enum-told .given .1) at (c .before .before .before .before .before .before .before .before .before .before .before .judge-tile .ensures)) in
-    let h = says-true (c .before .before .before .before .before .before .before .before .has-both .ensures) (c .before .before .before .before .before .before .before .if1 .taken) in
+    let inside = c .before .before .before .before .before .before .before in
+    let judged = inside .before .before .before .before in
+    let w = admitted-well (rw (inside .before .before .enum-told .given .1) at (judged .judge-tile .ensures)) in
+    let h = says-true (inside .before .has-both .ensures) (inside .if1 .taken) in
     (omega (arith, w .0 .low), w .0 .high, w .2, omega arith)
 
 add-line-requires-2 : tie.Need-add-line-requires-2
 add-line-requires-2 c κs =
-    let w = admitted-well (rw (c .before .before .before .before .before .before .before .before .before .before .before .before .before .before .enum-told .given .1) at (c .before .before .before .before .before .before .before .before .before .before .before .before .before .before .before .before .judge-tile .ensures)) in
-    let h = says-true (c .before .before .before .before .before .before .before .before .before .before .before .before .before .has-both .ensures) (c .before .before .before .before .before .before .before .before .before .before .before .before .if1 .taken) in
-    (omega (arith, w .0 .low), w .0 .high, c .before .before .before .before .add-line .ensures .1 ∙ w .2, omega arith)
+    let changed = c .before .before .before .before in
+    let inside = changed .before .before .before .before .before .before .before .before in
+    let judged = inside .before .before .before .before in
+    let w = admitted-well (rw (inside .before .before .enum-told .given .1) at (judged .judge-tile .ensures)) in
+    let h = says-true (inside .before .has-both .ensures) (inside .if1 .taken) in
+    (omega (arith, w .0 .low), w .0 .high, changed .add-line .ensures .1 ∙ w .2, omega arith)
 
 returns : tie.Need-returns
 returns c = refuses (rw (c .before .refusal .given .1) at (c .before .before .before .judge-tile .ensures))
@@ -49,12 +55,17 @@ same-length c = search needs
 
 returns-2 : tie.Need-returns-2
 returns-2 c =
-    let start = c .before .before .before .before .before .before .before .before .before .before .before .before .before .before .before .before .before .before .before .before .before in
-    let filling = c .before .before .before .before .before .before .before .before .before .before .before .before .before .solve in
-    let one = c .before .before .before .before .before .before .before .add-line in
+    let changed = c .before .before .before .before .before .before .before in
+    let chosen = changed .before .before .before in
+    let solved = chosen .before .before .before in
+    let asked = solved .before .before .before in
+    let judged = asked .before .before .before in
+    let start = judged .before .before in
+    let filling = solved .solve in
+    let one = changed .add-line in
     let two = c .before .before .add-line2 in
     ends-filled (start .args .p) (start .args .l) (start .args .first) (start .args .second) (held (filling .result .first)) (held (filling .result .second)) (start .args .tile .now) _ _
-    (rw (c .before .before .before .before .before .before .before .before .before .before .before .before .before .before .before .before .before .enum-told .given .1) at (c .before .before .before .before .before .before .before .before .before .before .before .before .before .before .before .before .before .before .before .judge-tile .ensures)) (says-true (c .before .before .before .before .before .before .before .before .before .before .before .before .before .before .before .before .has-both .ensures) (c .before .before .before .before .before .before .before .before .before .before .before .before .before .before .before .if1 .taken)) (rw (c .before .before .before .before .before .before .before .before .before .before .if2 .taken) at (filling .ensures))
+    (rw (asked .before .enum-told .given .1) at (judged .judge-tile .ensures)) (says-true (asked .has-both .ensures) (solved .before .before .if1 .taken)) (rw (chosen .if2 .taken) at (filling .ensures))
     (one .ensures .1) (two .ensures .1) (one .ensures .0) (two .ensures .0)
 
 same-length-2 : tie.Need-same-length-2
@@ -62,9 +73,12 @@ same-length-2 c = search needs
 
 returns-3 : tie.Need-returns-3
 returns-3 c =
-    let start = c .before .before .before .before .before .before .before .before .before .before .before in
+    let solved = c .before .before .before in
+    let asked = solved .before .before .before in
+    let judged = asked .before .before .before in
+    let start = judged .before .before in
     ends-unfilled (start .args .p) (start .args .l) (start .args .first) (start .args .second) (start .args .tile .now)
-    (rw (c .before .before .before .before .before .before .before .enum-told .given .1) at (c .before .before .before .before .before .before .before .before .before .judge-tile .ensures)) (says-true (c .before .before .before .before .before .before .has-both .ensures) (c .before .before .before .before .before .if1 .taken)) (rw (c .if2 .left) at (c .before .before .before .solve .ensures))
+    (rw (asked .before .enum-told .given .1) at (judged .judge-tile .ensures)) (says-true (asked .has-both .ensures) (solved .before .before .if1 .taken)) (rw (c .if2 .left) at (solved .solve .ensures))
 
 returns-4 : tie.Need-returns-4
 returns-4 c = no-line (rw (c .before .before .enum-told .given .1) at (c .before .before .before .before .judge-tile .ensures)) (says-false (c .before .has-both .ensures) (c .if1 .left))

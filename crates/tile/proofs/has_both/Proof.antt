@@ -1,8 +1,8 @@
 -- `tile::has_both` meets its contract. Assumes nothing.
+use borrow.Author.Needs.{needs}
 use Rattle.size.specs.Told.{says-true, says-false}
 use Rattle.tile.specs.Calls.{Has}
 use Rattle.tile.specs.Admit.{says-both}
-use borrow.Author.Needs.{needs}
 use Rattle.tile.proofs.has_both.Statement.{statement}
 use Rattle.tile.proofs.has_both.Tie as tie
 

@@ -2,9 +2,9 @@
 use Prim.Native.Nat.{_-_, _≤_}
 use native.Mathlib.Nat.{mul-le-mul}
 use native.Mathlib.Omega.{arith}
+use borrow.Author.Needs.{needs}
 use Rattle.tile.specs.Calls.{no-length, admitted}
 use Rattle.tile.specs.Admit.{admitted-well, admitted-judged, admitted-more}
-use borrow.Author.Needs.{needs}
 use Rattle.tile.proofs.judge_text.Statement.{statement}
 use Rattle.tile.proofs.judge_text.Tie as tie
 

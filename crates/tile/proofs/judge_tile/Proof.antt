@@ -2,9 +2,9 @@
 use Prim.Native.Nat.{_-_, _≤_}
 use native.Mathlib.Nat.{mul-le-mul}
 use native.Mathlib.Omega.{arith}
+use borrow.Author.Needs.{needs}
 use Rattle.size.specs.Told.{judged-well}
 use Rattle.tile.specs.Calls.{judged, no-length, admitted}
-use borrow.Author.Needs.{needs}
 use Rattle.tile.proofs.judge_tile.Statement.{statement}
 use Rattle.tile.proofs.judge_tile.Tie as tie
 

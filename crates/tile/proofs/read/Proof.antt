@@ -1,9 +1,9 @@
 -- `tile::read` meets its contract. Assumes nothing.
 use native.Mathlib.Omega.{arith}
+use borrow.Author.Needs.{needs}
 use Rattle.size.specs.Told.{says-true, says-false}
 use Rattle.tile.specs.Calls.{refuses, not-good, reads}
 use Rattle.tile.specs.Admit.{admitted-well}
-use borrow.Author.Needs.{needs}
 use Rattle.tile.proofs.read.Statement.{statement}
 use Rattle.tile.proofs.read.Tie as tie
 
@@ -23,7 +23,8 @@ is-good-requires c κs =
 
 take-requires : tie.Need-take-requires
 take-requires c κs =
-    let w = admitted-well (rw (c .before .before .before .enum-told .given .1) at (c .before .before .before .before .before .judge-text .ensures)) in
+    let told = c .before .before .before in
+    let w = admitted-well (rw (told .enum-told .given .1) at (told .before .before .judge-text .ensures)) in
     record { low = omega (arith, w .0 .low); high = w .0 .high; tile = w .2 .0; text = w .2 .1 }
 
 returns : tie.Need-returns
@@ -34,8 +35,10 @@ same-length c = search needs
 
 returns-2 : tie.Need-returns-2
 returns-2 c =
+    let inside = c .before .before .before .before in
+    let judged = inside .before .before .before .before in
     rw (c .before .before .take .ensures)
-    (reads (rw (c .before .before .before .before .before .before .enum-told .given .1) at (c .before .before .before .before .before .before .before .before .judge-text .ensures)) (says-true (c .before .before .before .before .before .is-good .ensures) (c .before .before .before .before .if1 .taken)))
+    (reads (rw (inside .before .before .enum-told .given .1) at (judged .judge-text .ensures)) (says-true (inside .before .is-good .ensures) (inside .if1 .taken)))
 
 returns-3 : tie.Need-returns-3
 returns-3 c =

@@ -5,11 +5,11 @@ use Prim.Native.Nat.{ℕ, _≤_, _<_, _-_}
 use native.Mathlib.Nat.{mod-lt, mod-eq-of-lt}
 use native.Mathlib.Omega.{arith}
 use borrow.Author.Count.{below-more}
+use Rattle.residue.specs.Remainder.{same}
 use Rattle.code.specs.OneLine.{Agree}
 use Rattle.code.specs.Tile.{line}
 use Rattle.code.specs.declared.Line.the-variants.{Column}
 use Rattle.lines.specs.Bound.{product}
-use Rattle.residue.specs.Remainder.{same}
 use Rattle.lines.specs.Held.{held}
 use Rattle.lines.specs.Column.{first-cell, next-cell, given-up}
 use Rattle.lines.proofs.column.explaining.Statement.{statement}

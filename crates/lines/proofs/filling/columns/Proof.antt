@@ -1,8 +1,8 @@
 -- `lines::filling::columns` meets its contract. Assumes nothing.
 use mathlib.Core.Path.{sym}
 use native.Mathlib.Omega.{arith}
-use Rattle.lines.specs.Cases.{columns-close}
 use borrow.Author.Needs.{needs}
+use Rattle.lines.specs.Cases.{columns-close}
 use Rattle.lines.proofs.filling.columns.Statement.{statement}
 use Rattle.lines.proofs.filling.columns.Tie as tie
 

@@ -1,9 +1,9 @@
 -- `lines::filling::crossed` meets its contract. Assumes nothing.
 use mathlib.Core.Path.{sym, ap, _∙_}
 use native.Mathlib.Omega.{arith}
+use borrow.Author.Needs.{needs}
 use Rattle.lines.specs.Held.{held}
 use Rattle.lines.specs.Cases.{crossed-close, crossed-no}
-use borrow.Author.Needs.{needs}
 use Rattle.lines.proofs.filling.crossed.Statement.{statement}
 use Rattle.lines.proofs.filling.crossed.Tie as tie
 
@@ -21,12 +21,13 @@ element-copy-out-if1-2 c = search needs
 
 paired-requires : tie.Need-paired-requires
 paired-requires c κs =
-    let start = c .before .before .before .before .before in (
+    let crossing = c .before .before .before in
+    let start = crossing .before .before in (
       start .pre .0,
       (
         (omega arith, omega arith, omega arith),
         crossed-close (start .args .p) (start .args .l) _ _ (start .pre .0) (start .args .t) (start .args .s) (start .pre .1 .0) (omega arith) (omega arith) (start .pre .1 .1 .3)
-            (sym (ap (held (start .args .a .now)) (c .before .before .before .before .through .ensures .0)) ∙ c .if1 .taken ∙ ap (held (start .args .b .now)) (c .before .before .before .through2 .ensures .0)),
+            (sym (ap (held (start .args .a .now)) (crossing .before .through .ensures .0)) ∙ c .if1 .taken ∙ ap (held (start .args .b .now)) (crossing .through2 .ensures .0)),
       ),
     )
 
@@ -38,10 +39,11 @@ returns c = search needs
 
 returns-2 : tie.Need-returns-2
 returns-2 c =
-    let start = c .before .before .before .before .before .before in
+    let crossing = c .before .before .before .before in
+    let start = crossing .before .before in
     rw (c .none .ensures)
     (crossed-no (start .args .p) (start .args .l) _ _ (start .pre .0) (start .args .t) (start .args .s) (omega arith) (omega arith)
-    (λ e. c .before .if1 .left (ap (held (start .args .a .now)) (c .before .before .before .before .before .through .ensures .0) ∙ e ∙ sym (ap (held (start .args .b .now)) (c .before .before .before .before .through2 .ensures .0)))))
+    (λ e. c .before .if1 .left (ap (held (start .args .a .now)) (crossing .before .through .ensures .0) ∙ e ∙ sym (ap (held (start .args .b .now)) (crossing .through2 .ensures .0)))))
 
 pub crossed-spec : {M : Type 1} → statement M
 crossed-spec =

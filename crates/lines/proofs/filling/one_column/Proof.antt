@@ -1,7 +1,7 @@
 -- `lines::filling::one_column` meets its contract: the search among this one column says whether the sums agree along it. Assumes nothing.
 use native.Mathlib.Omega.{arith}
-use Rattle.lines.specs.Cases.{one-yes, one-no}
 use borrow.Author.Needs.{needs}
+use Rattle.lines.specs.Cases.{one-yes, one-no}
 use Rattle.lines.proofs.filling.one_column.Statement.{statement}
 use Rattle.lines.proofs.filling.one_column.Tie as tie
 

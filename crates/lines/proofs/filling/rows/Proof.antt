@@ -1,8 +1,8 @@
 -- `lines::filling::rows` meets its contract: rows are columns of the turned tile. Assumes nothing.
 use native.Mathlib.Omega.{arith}
+use borrow.Author.Needs.{needs}
 use Rattle.lines.specs.Held.{held}
 use Rattle.lines.specs.Cases.{held-turned, solved-rows}
-use borrow.Author.Needs.{needs}
 use Rattle.lines.proofs.filling.rows.Statement.{statement}
 use Rattle.lines.proofs.filling.rows.Tie as tie
 

@@ -1,9 +1,9 @@
 -- `lines::hurt::explain` meets its contract. Assumes nothing.
 use native.Mathlib.Omega.{arith}
+use borrow.Author.Needs.{needs}
 use Rattle.size.specs.Told.{says-true, says-false}
 use Rattle.lines.specs.Held.{held}
 use Rattle.lines.specs.Hurt.{good, column, row, more, row-agrees, agrees-row}
-use borrow.Author.Needs.{needs}
 use Rattle.lines.proofs.hurt.explain.Statement.{statement}
 use Rattle.lines.proofs.hurt.explain.Tie as tie
 
@@ -36,8 +36,9 @@ shifted-requires c κs = search needs
 
 returns-2 : tie.Need-returns-2
 returns-2 c =
+    let inside = c .before .before .before .before .before .before in
     let found = c .before .before .explaining .ensures in
-    column (says-false (c .before .before .before .before .before .before .before .all-one .ensures) (c .before .before .before .before .before .before .if1 .left)) (c .before .if2 .taken) (found .agrees (c .before .if2 .taken))
+    column (says-false (inside .before .all-one .ensures) (inside .if1 .left)) (c .before .if2 .taken) (found .agrees (c .before .if2 .taken))
     (λ k h. found .none k (omega arith) h) (c .shifted .ensures)
 
 sub-explaining-2 : tie.Need-sub-explaining-2
@@ -54,23 +55,27 @@ shifted-requires-2 c κs = search needs
 
 returns-3 : tie.Need-returns-3
 returns-3 c =
-    let start = c .before .before .before .before .before .before .before .before .before .before in
-    let columns = c .before .before .before .before .explaining .ensures in
+    let searched = c .before .before .before .before in
+    let inverted = searched .before .before .before in
+    let start = inverted .before .before .before in
+    let columns = searched .explaining .ensures in
     let found = c .before .before .explaining2 .ensures in
-    row (says-false (c .before .before .before .before .before .before .before .before .before .all-one .ensures) (c .before .before .before .before .before .before .before .before .if1 .left)) (c .before .if3 .taken) (λ k h. columns .none k (omega arith) (omega arith))
-    (row-agrees _ _ _ (c .before .before .before .before .before .before .before .inverse .ensures .0) (held (start .args .a .now)) (held (start .args .b .now)) (held (c .before .before .before .before .before .before .turned .result)) (c .before .before .before .before .before .before .turned .ensures) _ (found .agrees (c .before .if3 .taken)))
-    (λ k h g. found .none k (omega arith) h (agrees-row _ _ _ (c .before .before .before .before .before .before .before .inverse .ensures .0) (held (start .args .a .now)) (held (start .args .b .now)) (held (c .before .before .before .before .before .before .turned .result)) (c .before .before .before .before .before .before .turned .ensures) k g)) (c .shifted2 .ensures)
+    row (says-false (inverted .before .before .all-one .ensures) (inverted .before .if1 .left)) (c .before .if3 .taken) (λ k h. columns .none k (omega arith) (omega arith))
+    (row-agrees _ _ _ (inverted .inverse .ensures .0) (held (start .args .a .now)) (held (start .args .b .now)) (held (searched .before .before .turned .result)) (searched .before .before .turned .ensures) _ (found .agrees (c .before .if3 .taken)))
+    (λ k h g. found .none k (omega arith) h (agrees-row _ _ _ (inverted .inverse .ensures .0) (held (start .args .a .now)) (held (start .args .b .now)) (held (searched .before .before .turned .result)) (searched .before .before .turned .ensures) k g)) (c .shifted2 .ensures)
 
 zeros-requires-2 : tie.Need-zeros-requires-2
 zeros-requires-2 c κs = search needs
 
 returns-4 : tie.Need-returns-4
 returns-4 c =
-    let start = c .before .before .before .before .before .before .before .before .before .before in
-    let columns = c .before .before .before .before .explaining .ensures in
+    let searched = c .before .before .before .before in
+    let inverted = searched .before .before .before in
+    let start = inverted .before .before .before in
+    let columns = searched .explaining .ensures in
     let found = c .before .before .explaining2 .ensures in
-    more (says-false (c .before .before .before .before .before .before .before .before .before .all-one .ensures) (c .before .before .before .before .before .before .before .before .if1 .left)) (λ k h. columns .none k (omega arith) (omega arith))
-    (λ k h g. found .none k (omega arith) (omega arith) (agrees-row _ _ _ (c .before .before .before .before .before .before .before .inverse .ensures .0) (held (start .args .a .now)) (held (start .args .b .now)) (held (c .before .before .before .before .before .before .turned .result)) (c .before .before .before .before .before .before .turned .ensures) k g))
+    more (says-false (inverted .before .before .all-one .ensures) (inverted .before .if1 .left)) (λ k h. columns .none k (omega arith) (omega arith))
+    (λ k h g. found .none k (omega arith) (omega arith) (agrees-row _ _ _ (inverted .inverse .ensures .0) (held (start .args .a .now)) (held (start .args .b .now)) (held (searched .before .before .turned .result)) (searched .before .before .turned .ensures) k g))
 
 pub explain-spec : {M : Type 1} → statement M
 explain-spec =

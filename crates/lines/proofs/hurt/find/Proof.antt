@@ -1,7 +1,7 @@
 -- `lines::hurt::find` meets its contract: the arrays hold the tile's sums. Assumes nothing.
+use borrow.Author.Needs.{needs}
 use Rattle.lines.specs.Held.{held}
 use Rattle.lines.specs.Hurt.{found-sums}
-use borrow.Author.Needs.{needs}
 use Rattle.lines.proofs.hurt.find.Statement.{statement}
 use Rattle.lines.proofs.hurt.find.Tie as tie
 
@@ -16,9 +16,10 @@ explain-requires c κs = search needs
 
 returns : tie.Need-returns
 returns c =
-    let start = c .before .before .before .before .before .before in
-    found-sums (start .args .p) (start .args .l) (held (c .before .before .before .before .line-sums .result)) (held (c .before .before .before .line-sums2 .result)) _ _ _
-    (c .before .before .before .before .line-sums .ensures) (c .before .before .before .line-sums2 .ensures) (c .explain .ensures)
+    let summed-again = c .before .before .before in
+    let start = summed-again .before .before .before in
+    found-sums (start .args .p) (start .args .l) (held (summed-again .before .line-sums .result)) (held (summed-again .line-sums2 .result)) _ _ _
+    (summed-again .before .line-sums .ensures) (summed-again .line-sums2 .ensures) (c .explain .ensures)
 
 pub find-spec : {M : Type 1} → statement M
 find-spec = tie.close (tie.spec line-sums-requires line-sums-requires-2 explain-requires returns)

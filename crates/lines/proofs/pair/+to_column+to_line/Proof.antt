@@ -1,15 +1,15 @@
 -- The proof of the cycle of calls {to_column, to_line}. Each one's measure is the number of unfilled symbols. What each fills, and that it
 -- touches nothing else, is one law of `Hand`. Assumes nothing.
 use mathlib.Core.Path.{refl}
+use Prim.Native.Nat.{ℕ, _+_, _*_, _<_}
 use native.Mathlib.Nat.{mod-lt}
 use native.Mathlib.Omega.{arith}
-use borrow.Author.Needs.{needs}
 use lib.ListN.{length-set}
-use Rattle.lines.specs.Bound.{product}
-use Rattle.lines.specs.Hand.{no-line, no-column, line-turn, column-turn}
-use Prim.Native.Nat.{ℕ, _+_, _*_, _<_}
+use borrow.Author.Needs.{needs}
 use borrow.Fn.Kinds.{In}
 use borrow.Fn.PlainCycle.{Measures, is, falls, and}
+use Rattle.lines.specs.Bound.{product}
+use Rattle.lines.specs.Hand.{no-line, no-column, line-turn, column-turn}
 use Rattle.lines.proofs.pair.to_column.Reads as to-column
 use Rattle.lines.proofs.pair.to_column.Kinds as to-column-kinds
 use Rattle.lines.proofs.pair.+to_column+to_line.Lts-to_column as to-column-lts
@@ -21,6 +21,7 @@ use Rattle.lines.proofs.index.step.Reads as step-reads
 use Rattle.lines.proofs.pair.+to_column+to_line.{statement}
 use Rattle.lines.proofs.pair.+to_column+to_line.Tie.{close}
 
+-- the number of unfilled symbols, the last parameter of each
 abbrev μ-to-column : Measures 4 to-column-kinds.ps ℕ
 μ-to-column κs a = a .1 .1 .1 .1 .1 .1 .1 .1 .1 .1 .1 .0
 
@@ -40,92 +41,49 @@ to-line-at t = and 4 to-line-kinds.ps (is 4 to-line-kinds.ps μ-to-line t) to-li
 abbrev to-line-below : ℕ → In 4 to-line-kinds.ps
 to-line-below t = and 4 to-line-kinds.ps (falls 4 to-line-kinds.ps _<_ μ-to-line t) to-line.Pre
 
-to-column-returns : (t : ℕ) → to-column-lts.Need-returns (
-  before-reads.Asked,
-  before-reads.Learnt,
-  to-line-below t,
-  to-line.Post,
-) (to-column-at t) to-column.Post
+-- what each calls, with the other below the measure t
+abbrev to-column-calls : ℕ → to-column-lts.Claims
+to-column-calls t = (before-reads.Asked, before-reads.Learnt, to-line-below t, to-line.Post)
+
+abbrev to-line-calls : ℕ → to-line-lts.Claims
+to-line-calls t = (step-reads.Asked, step-reads.Learnt, before-reads.Asked, before-reads.Learnt, to-column-below t, to-column.Post)
+
+to-column-returns : (t : ℕ) → to-column-lts.Need-returns (to-column-calls t) (to-column-at t) to-column.Post
 to-column-returns t c =
     let start = c .before in
     no-column _ _ _ _ _ _ _ _ _ (λ k. 0) (λ k. 0) (omega (arith, start .pre .1 .0 .column)) _ _ _ (c .if1 .taken)
 
-to-column-mul-t : (t : ℕ) → to-column-lts.Need-mul-t (
-  before-reads.Asked,
-  before-reads.Learnt,
-  to-line-below t,
-  to-line.Post,
-) (to-column-at t) to-column.Post
+to-column-mul-t : (t : ℕ) → to-column-lts.Need-mul-t (to-column-calls t) (to-column-at t) to-column.Post
 to-column-mul-t t c =
     let a = c .before .args in
     omega (arith, product (a .weight) (a .k) (omega arith) (omega arith))
 
-to-column-add-t : (t : ℕ) → to-column-lts.Need-add-t (
-  before-reads.Asked,
-  before-reads.Learnt,
-  to-line-below t,
-  to-line.Post,
-) (to-column-at t) to-column.Post
+to-column-add-t : (t : ℕ) → to-column-lts.Need-add-t (to-column-calls t) (to-column-at t) to-column.Post
 to-column-add-t t c =
     let a = c .before .args in
     omega (arith, product (a .weight) (a .k) (omega arith) (omega arith))
 
-to-column-rem-t : (t : ℕ) → to-column-lts.Need-rem-t (
-  before-reads.Asked,
-  before-reads.Learnt,
-  to-line-below t,
-  to-line.Post,
-) (to-column-at t) to-column.Post
+to-column-rem-t : (t : ℕ) → to-column-lts.Need-rem-t (to-column-calls t) (to-column-at t) to-column.Post
 to-column-rem-t t c = search needs
 
-to-column-before-requires : (t : ℕ) → to-column-lts.Need-before-requires (
-  before-reads.Asked,
-  before-reads.Learnt,
-  to-line-below t,
-  to-line.Post,
-) (to-column-at t) to-column.Post
+to-column-before-requires : (t : ℕ) → to-column-lts.Need-before-requires (to-column-calls t) (to-column-at t) to-column.Post
 to-column-before-requires t c κs = (omega arith, mod-lt _ (omega arith), omega arith)
 
-to-column-element-copy-out-x : (t : ℕ) → to-column-lts.Need-element-copy-out-x (
-  before-reads.Asked,
-  before-reads.Learnt,
-  to-line-below t,
-  to-line.Post,
-) (to-column-at t) to-column.Post
+to-column-element-copy-out-x : (t : ℕ) → to-column-lts.Need-element-copy-out-x (to-column-calls t) (to-column-at t) to-column.Post
 to-column-element-copy-out-x t c =
     let a = c .before .before .args in
     omega (arith, mod-lt (a .base + a .weight * a .k) {m = a .p} (omega arith))
 
-to-column-element-copy-out-x-2 : (t : ℕ) → to-column-lts.Need-element-copy-out-x-2 (
-  before-reads.Asked,
-  before-reads.Learnt,
-  to-line-below t,
-  to-line.Post,
-) (to-column-at t) to-column.Post
+to-column-element-copy-out-x-2 : (t : ℕ) → to-column-lts.Need-element-copy-out-x-2 (to-column-calls t) (to-column-at t) to-column.Post
 to-column-element-copy-out-x-2 t c = search needs
 
-to-column-element-write-x : (t : ℕ) → to-column-lts.Need-element-write-x (
-  before-reads.Asked,
-  before-reads.Learnt,
-  to-line-below t,
-  to-line.Post,
-) (to-column-at t) to-column.Post
+to-column-element-write-x : (t : ℕ) → to-column-lts.Need-element-write-x (to-column-calls t) (to-column-at t) to-column.Post
 to-column-element-write-x t c = search needs
 
-to-column-sub-to-line : (t : ℕ) → to-column-lts.Need-sub-to-line (
-  before-reads.Asked,
-  before-reads.Learnt,
-  to-line-below t,
-  to-line.Post,
-) (to-column-at t) to-column.Post
+to-column-sub-to-line : (t : ℕ) → to-column-lts.Need-sub-to-line (to-column-calls t) (to-column-at t) to-column.Post
 to-column-sub-to-line t c = search needs
 
-to-column-to-line-requires : (t : ℕ) → to-column-lts.Need-to-line-requires (
-  before-reads.Asked,
-  before-reads.Learnt,
-  to-line-below t,
-  to-line.Post,
-) (to-column-at t) to-column.Post
+to-column-to-line-requires : (t : ℕ) → to-column-lts.Need-to-line-requires (to-column-calls t) (to-column-at t) to-column.Post
 to-column-to-line-requires t c κs =
     let start = c .before .before .before .before .before .before in
     let pre = start .pre .1 .0 in (
@@ -144,97 +102,36 @@ to-column-to-line-requires t c κs =
       ),
     )
 
-to-column-returns-2 : (t : ℕ) → to-column-lts.Need-returns-2 (
-  before-reads.Asked,
-  before-reads.Learnt,
-  to-line-below t,
-  to-line.Post,
-) (to-column-at t) to-column.Post
+to-column-returns-2 : (t : ℕ) → to-column-lts.Need-returns-2 (to-column-calls t) (to-column-at t) to-column.Post
 to-column-returns-2 t c =
     let start = c .before .before .before .before .before .before .before in
     column-turn _ _ _ _ _ _ _ _ _ _ _ (omega (arith, start .pre .1 .0 .column)) (start .args .x .now) _ _ _ _ (c .before .before .before .before .before .before .if1 .left) refl (c .before .before .before .before .before .before2 .ensures .0)
     (omega arith) (c .to-line .ensures)
 
-to-line-returns : (t : ℕ) → to-line-lts.Need-returns (
-  step-reads.Asked,
-  step-reads.Learnt,
-  before-reads.Asked,
-  before-reads.Learnt,
-  to-column-below t,
-  to-column.Post,
-) (to-line-at t) to-line.Post
+to-line-returns : (t : ℕ) → to-line-lts.Need-returns (to-line-calls t) (to-line-at t) to-line.Post
 to-line-returns t c =
     let start = c .before in
     no-line _ _ _ _ _ _ _ _ _ (λ k. 0) (λ k. 0) (omega (arith, start .pre .1 .0 .column)) _ _ _ (c .if1 .taken)
 
-to-line-step-requires : (t : ℕ) → to-line-lts.Need-step-requires (
-  step-reads.Asked,
-  step-reads.Learnt,
-  before-reads.Asked,
-  before-reads.Learnt,
-  to-column-below t,
-  to-column.Post,
-) (to-line-at t) to-line.Post
+to-line-step-requires : (t : ℕ) → to-line-lts.Need-step-requires (to-line-calls t) (to-line-at t) to-line.Post
 to-line-step-requires t c κs = search needs
 
-to-line-before-requires : (t : ℕ) → to-line-lts.Need-before-requires (
-  step-reads.Asked,
-  step-reads.Learnt,
-  before-reads.Asked,
-  before-reads.Learnt,
-  to-column-below t,
-  to-column.Post,
-) (to-line-at t) to-line.Post
+to-line-before-requires : (t : ℕ) → to-line-lts.Need-before-requires (to-line-calls t) (to-line-at t) to-line.Post
 to-line-before-requires t c κs = search needs
 
-to-line-element-copy-out-y : (t : ℕ) → to-line-lts.Need-element-copy-out-y (
-  step-reads.Asked,
-  step-reads.Learnt,
-  before-reads.Asked,
-  before-reads.Learnt,
-  to-column-below t,
-  to-column.Post,
-) (to-line-at t) to-line.Post
+to-line-element-copy-out-y : (t : ℕ) → to-line-lts.Need-element-copy-out-y (to-line-calls t) (to-line-at t) to-line.Post
 to-line-element-copy-out-y t c = search needs
 
-to-line-element-copy-out-y-2 : (t : ℕ) → to-line-lts.Need-element-copy-out-y-2 (
-  step-reads.Asked,
-  step-reads.Learnt,
-  before-reads.Asked,
-  before-reads.Learnt,
-  to-column-below t,
-  to-column.Post,
-) (to-line-at t) to-line.Post
+to-line-element-copy-out-y-2 : (t : ℕ) → to-line-lts.Need-element-copy-out-y-2 (to-line-calls t) (to-line-at t) to-line.Post
 to-line-element-copy-out-y-2 t c = search needs
 
-to-line-element-write-y : (t : ℕ) → to-line-lts.Need-element-write-y (
-  step-reads.Asked,
-  step-reads.Learnt,
-  before-reads.Asked,
-  before-reads.Learnt,
-  to-column-below t,
-  to-column.Post,
-) (to-line-at t) to-line.Post
+to-line-element-write-y : (t : ℕ) → to-line-lts.Need-element-write-y (to-line-calls t) (to-line-at t) to-line.Post
 to-line-element-write-y t c = search needs
 
-to-line-sub-to-column : (t : ℕ) → to-line-lts.Need-sub-to-column (
-  step-reads.Asked,
-  step-reads.Learnt,
-  before-reads.Asked,
-  before-reads.Learnt,
-  to-column-below t,
-  to-column.Post,
-) (to-line-at t) to-line.Post
+to-line-sub-to-column : (t : ℕ) → to-line-lts.Need-sub-to-column (to-line-calls t) (to-line-at t) to-line.Post
 to-line-sub-to-column t c = search needs
 
-to-line-to-column-requires : (t : ℕ) → to-line-lts.Need-to-column-requires (
-  step-reads.Asked,
-  step-reads.Learnt,
-  before-reads.Asked,
-  before-reads.Learnt,
-  to-column-below t,
-  to-column.Post,
-) (to-line-at t) to-line.Post
+to-line-to-column-requires : (t : ℕ) → to-line-lts.Need-to-column-requires (to-line-calls t) (to-line-at t) to-line.Post
 to-line-to-column-requires t c κs =
     let start = c .before .before .before .before .before .before .before in
     let pre = start .pre .1 .0 in (
@@ -253,26 +150,14 @@ to-line-to-column-requires t c κs =
       ),
     )
 
-to-line-returns-2 : (t : ℕ) → to-line-lts.Need-returns-2 (
-  step-reads.Asked,
-  step-reads.Learnt,
-  before-reads.Asked,
-  before-reads.Learnt,
-  to-column-below t,
-  to-column.Post,
-) (to-line-at t) to-line.Post
+to-line-returns-2 : (t : ℕ) → to-line-lts.Need-returns-2 (to-line-calls t) (to-line-at t) to-line.Post
 to-line-returns-2 t c =
     let start = c .before .before .before .before .before .before .before .before in
     line-turn _ _ _ _ _ _ _ _ _ _ _ (omega (arith, start .pre .1 .0 .column)) _ (start .args .y .now) _ _ _ (c .before .before .before .before .before .before .before .if1 .left) (c .before .before .before .before .before .before .step .ensures .is)
     (c .before .before .before .before .before .before2 .ensures .0) (omega arith) (c .to-column .ensures)
 
 pub +to-column+to-line-spec : {M : Type 1} → statement M
-+to-column+to-line-spec = close μ-to-column μ-to-line (λ t. to-column-lts.spec (
-  before-reads.Asked,
-  before-reads.Learnt,
-  to-line-below t,
-  to-line.Post,
-)
++to-column+to-line-spec = close μ-to-column μ-to-line (λ t. to-column-lts.spec (to-column-calls t)
     (to-column-at t)
     to-column.Post
     (to-column-returns t)
@@ -286,14 +171,7 @@ pub +to-column+to-line-spec : {M : Type 1} → statement M
     (to-column-sub-to-line t)
     (to-column-to-line-requires t)
     (to-column-returns-2 t))
-    λ t. to-line-lts.spec (
-      step-reads.Asked,
-      step-reads.Learnt,
-      before-reads.Asked,
-      before-reads.Learnt,
-      to-column-below t,
-      to-column.Post,
-    )
+    λ t. to-line-lts.spec (to-line-calls t)
     (to-line-at t)
     to-line.Post
     (to-line-returns t)

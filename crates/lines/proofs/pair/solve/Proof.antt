@@ -2,11 +2,11 @@
 use native.Mathlib.Nat.{mod-lt}
 use native.Mathlib.Omega.{arith}
 use lib.ListN.{replicate}
+use borrow.Author.Needs.{needs}
 use Rattle.lines.specs.Bound.{product}
 use Rattle.lines.specs.Held.{held, zeros-held}
 use Rattle.lines.specs.Hand.{weight-most}
 use Rattle.lines.specs.Solve.{hops-most, chain-settled}
-use borrow.Author.Needs.{needs}
 use Rattle.lines.proofs.pair.solve.Statement.{statement}
 use Rattle.lines.proofs.pair.solve.Tie as tie
 
@@ -32,7 +32,9 @@ weight-requires : tie.Need-weight-requires
 weight-requires c κs = search needs
 
 mul-to-line : tie.Need-mul-to-line
-mul-to-line c = let pair = c .before .before .before .before .before .args .pair in omega (arith, product (pair .l) (pair .column) (omega arith) (omega arith))
+mul-to-line c =
+    let start = c .before .before .before .before .before in
+    let pair = start .args .pair in omega (arith, product (pair .l) (pair .column) (omega arith) (omega arith))
 
 rem-to-line : tie.Need-rem-to-line
 rem-to-line c = search needs
@@ -42,12 +44,13 @@ sub-to-line c = search needs
 
 to-line-requires : tie.Need-to-line-requires
 to-line-requires c κs =
-    let pair = c .before .before .before .before .before .before .before .args .pair in (
+    let crossing = c .before .before .before .before .before in
+    let pair = crossing .before .before .args .pair in (
       record {
         high = omega arith;
         column = omega arith;
         line = omega arith;
-        base-lt = c .before .before .before .before .before .through .ensures .1;
+        base-lt = crossing .through .ensures .1;
         weight-lt = omega (arith, c .before .before .weight .ensures, weight-most (pair .p) (pair .l) (pair .line) (omega arith) (omega arith));
         back-lt = mod-lt _ (omega arith);
         at = omega arith;
@@ -60,10 +63,12 @@ without-common-requires c κs = search needs
 
 returns : tie.Need-returns
 returns c =
-    let start = c .before .before .before .before .before .before .before .before .before in
+    let weighed = c .before .before .before .before in
+    let crossing = weighed .before .before .before in
+    let start = crossing .before .before in
     chain-settled (start .args .pair .p) (start .args .pair .l) (start .args .pair .column) (start .args .pair .line) _ _ (held (replicate 257 0)) _ _ _ _
-    (start .pre .0) (start .pre .1 .1) (start .pre .1 .0 .1) (start .pre .1 .0 .2) (zeros-held 257) (c .before .before .before .before .before .before .before .before .along .ensures)
-    (rw (c .before .before .before .before .before .number .ensures, c .before .before .before .before .before .before .before .through .ensures .0, c .before .before .before .before .weight .ensures, c .before .before .before .before .before .before .hops .ensures) at (c .before .to-line .ensures))
+    (start .pre .0) (start .pre .1 .1) (start .pre .1 .0 .1) (start .pre .1 .0 .2) (zeros-held 257) (crossing .before .along .ensures)
+    (rw (weighed .before .number .ensures, crossing .through .ensures .0, weighed .weight .ensures, weighed .before .before .hops .ensures) at (c .before .to-line .ensures))
     (c .without-common .ensures)
 
 pub solve-spec : {M : Type 1} → statement M

@@ -1,7 +1,7 @@
 -- `lines::sums::is_good` meets its contract. Assumes nothing.
 use native.Mathlib.Omega.{arith}
-use Rattle.lines.specs.Good.{says-good}
 use borrow.Author.Needs.{needs}
+use Rattle.lines.specs.Good.{says-good}
 use Rattle.lines.proofs.sums.is_good.Statement.{statement}
 use Rattle.lines.proofs.sums.is_good.Tie as tie
 
@@ -16,9 +16,10 @@ all-one-requires c κs = search needs
 
 returns : tie.Need-returns
 returns c =
-    let start = c .before .before .before .before .before .before in
-    let a = c .before .before .before .before .line-sums in
-    let b = c .before .before .before .line-sums2 in
+    let summed-again = c .before .before .before in
+    let start = summed-again .before .before .before in
+    let a = summed-again .before .line-sums in
+    let b = summed-again .line-sums2 in
     says-good (start .args .p) (start .args .l) (start .args .tile .now) (a .result) (b .result) (c .all-one .result) (omega arith) (a .ensures) (b .ensures) (c .all-one .ensures)
 
 pub is-good-spec : {M : Type 1} → statement M
