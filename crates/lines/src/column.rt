@@ -21,7 +21,7 @@ pub fn explaining(
     ensures { λ r. ⌜ FirstColumn p l (held (now (a .entry))) (held (now (b .entry))) first end r ⌝ }
 {
     let mut c = first;
-    let column = 'columns: loop {
+    'columns: loop {
         if c == end {
             break 'columns end;
         }
@@ -39,8 +39,7 @@ pub fn explaining(
             i += 1;
         }
         break 'columns c;
-    };
-    column
+    }
 }
 
 // The change that mends one hurt line, where the sums agree along it.
