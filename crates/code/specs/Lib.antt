@@ -7,6 +7,7 @@ pub mod Test
 pub mod Sums
 pub mod Place
 pub mod Good
+pub mod Xored
 pub mod Settle
 pub mod Turn
 pub mod OneLine

@@ -13,7 +13,7 @@ use lib.Seq.{ext-getD}
 use borrow.Author.Tests.{lt-ltb, le-ltb}
 use Rattle.xor.specs.Sum.{keep-zero, keep-byte}
 use Rattle.code.specs.Tabulate.{tabulate, tabulate-length, tabulate-at, tabulate-bytes}
-use Rattle.code.specs.Tile.{Cells, tileLength, place, cell, textLength, textOf, Bytes}
+use Rattle.code.specs.Tile.{Cells, tileLength, place, cell, textLength, textFrom, textOf, Bytes}
 use Rattle.code.specs.Sums.{Padded, Same, plus, padded-plus}
 
 -- ---- n rows of w bytes, row by row
@@ -120,19 +120,29 @@ tile-bytes p T h = tabulate-bytes (tileLength p) _ (λ k. h (k / (p - 1)) (k % (
 
 -- ---- texts
 
-pub text-length : (p : ℕ) (tile : List ℕ) → length (textOf p tile) ≡ textLength p
-unfolding textOf
-text-length p tile = tabulate-length (textLength p) _
+-- a text of given bytes has its length ..
+pub from-length : (p : ℕ) (T : Cells) → length (textFrom p T) ≡ textLength p
+unfolding textFrom
+from-length p T = tabulate-length (textLength p) _
 
 -- the byte of a text in row i and column j
 abbrev pub textByte : ℕ → List ℕ → ℕ → ℕ → ℕ
 textByte p text i j = getD text (i * (p - 3) + j) 0
 
--- a text's byte in row i and column j is the tile's
+-- .. and those bytes
+pub from-at : (p : ℕ) (T : Cells) (i j : ℕ) → i < p - 1 → j < p - 3 → textByte p (textFrom p T) i j ≡ T i j
+unfolding textFrom
+from-at p T i j hi hj =
+    tabulate-at (textLength p) (i * (p - 3) + j) _ (row-lt (p - 1) (p - 3) i j hi hj) ∙ ap₂ T (digits-div i hj) (digits-mod i hj)
+
+-- those of a tile's text are the tile's
+pub text-length : (p : ℕ) (tile : List ℕ) → length (textOf p tile) ≡ textLength p
+unfolding textOf
+text-length p tile = from-length p (cell p tile)
+
 pub text-at : (p : ℕ) (tile : List ℕ) (i j : ℕ) → i < p - 1 → j < p - 3 → textByte p (textOf p tile) i j ≡ cell p tile i j
 unfolding textOf
-text-at p tile i j hi hj =
-    tabulate-at (textLength p) (i * (p - 3) + j) _ (row-lt (p - 1) (p - 3) i j hi hj) ∙ ap₂ (cell p tile) (digits-div i hj) (digits-mod i hj)
+text-at p tile = from-at p (cell p tile)
 
 -- the text of a tile is the list with its bytes
 pub text-is : (p : ℕ) (tile text : List ℕ) → 3 < p → length text ≡ textLength p

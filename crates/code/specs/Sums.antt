@@ -10,7 +10,7 @@ use native.Mathlib.Omega.{arith}
 use lib.Dec.{eqb}
 use borrow.Author.Tests.{eqb-true, eq-eqb}
 use Rattle.xor.specs.Xor.{_⊕_, zero-l}
-use Rattle.xor.specs.Sum.{xorBelow, keep, keep-xor, keep-byte, bytes, ext, zeros, split, swap, single, one, at, odd}
+use Rattle.xor.specs.Sum.{xorBelow, keep, keep-xor, keep-zero, keep-comm, keep-byte, bytes, ext, zeros, split, swap, single, one, at, odd}
 use Rattle.residue.specs.Prime.{Prime, prime-odd}
 use Rattle.residue.specs.Remainder.{same-step, before, before-lt, before-step}
 use Rattle.code.specs.Tile.{Cells, line, sum, OneSum}
@@ -39,6 +39,22 @@ pub sum-plus : (p s t : ℕ) (T U : Cells) → sum p s (plus T U) t ≡ sum p s 
 unfolding sum
 sum-plus p s t T U =
     ext p _ _ (λ i l. ext p _ _ (λ j m. keep-xor (eqb (line p s i j) t) (T i j) (U i j)) ∙ split p _ _) ∙ split p _ _
+
+-- a tile of zeros
+pub sum-zeros : (p s t : ℕ) (T : Cells) → ((i j : ℕ) → i < p → j < p → T i j ≡ 0) → sum p s T t ≡ 0
+unfolding sum
+sum-zeros p s t T h = zeros p _ (λ i l. zeros p _ (λ j m. ap (keep (eqb (line p s i j) t)) (h i j l m) ∙ keep-zero (eqb (line p s i j) t)))
+
+-- x in row i and column j, and zeros elsewhere: x is the sum of the line through that cell
+abbrev pub lone : ℕ → ℕ → ℕ → Cells
+lone i j x i′ j′ = keep (eqb i′ i) (keep (eqb j′ j) x)
+
+pub sum-lone : (p s t i j x : ℕ) → i < p → j < p → sum p s (lone i j x) t ≡ keep (eqb (line p s i j) t) x
+unfolding sum
+sum-lone p s t i j x hi hj =
+    ext p _ _ (λ i′ l. ext p _ _ (λ j′ m. keep-comm (eqb (line p s i′ j′) t) (eqb i′ i) _ ∙ ap (keep (eqb i′ i)) (keep-comm (eqb (line p s i′ j′) t) (eqb j′ j) x) ∙ keep-comm (eqb i′ i) (eqb j′ j) _)
+    ∙ one p j (λ j′. eqb j′ j) (λ j′. keep (eqb i′ i) (keep (eqb (line p s i′ j′) t) x)) hj (eq-eqb j j refl) (λ j′ m e. eqb-true j′ j e))
+    ∙ one p i (λ i′. eqb i′ i) (λ i′. keep (eqb (line p s i′ j) t) x) hi (eq-eqb i i refl) (λ i′ l e. eqb-true i′ i e)
 
 -- a sum of bytes is a byte
 pub sum-byte : (p s t : ℕ) (T : Cells) → ((i j : ℕ) → T i j < 256) → sum p s T t < 256

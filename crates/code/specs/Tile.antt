@@ -1,10 +1,11 @@
 -- WHAT A READER MUST BELIEVE: what a good tile is, in the words of document 01. All is said of a list of bytes. Of the crate `xor`
--- it uses `xorBelow n f`, the XOR of f 0 to f (n - 1), and `keep`, a value where a test holds and else 0. Assumes nothing.
+-- it uses `a ⊕ b`, `xorBelow n f`, the XOR of f 0 to f (n - 1), and `keep`, a value where a test holds and else 0. Assumes nothing.
 use mathlib.Core.Path.{_≡_}
 use mathlib.Core.List.{List}
 use Prim.Native.Nat.{ℕ, _+_, _-_, _*_, _/_, _%_, _<_}
 use lib.Dec.{eqb, ltb}
 use lib.ListN.{length, getD}
+use Rattle.xor.specs.Xor.{_⊕_}
 use Rattle.xor.specs.Sum.{xorBelow, keep}
 use Rattle.code.specs.Tabulate.{tabulate}
 use Rattle.code.specs.declared.Line.{Line}
@@ -49,8 +50,12 @@ Good p l tile = OneSum p l (cell p tile)
 abbrev pub textLength : ℕ → ℕ
 textLength p = (p - 1) * (p - 3)
 
+-- the text whose byte in row i and column j is `cells i j`, and the text of a tile
+unfoldable pub textFrom : ℕ → Cells → List ℕ
+textFrom p cells = tabulate (textLength p) (λ k. cells (k / (p - 3)) (k % (p - 3)))
+
 unfoldable pub textOf : ℕ → List ℕ → List ℕ
-textOf p tile = tabulate (textLength p) (λ k. cell p tile (k / (p - 3)) (k % (p - 3)))
+textOf p tile = textFrom p (cell p tile)
 
 -- "from text, the one good tile with that text"
 pub record Writes (p l : ℕ) (text tile : List ℕ) : Type 0 where
@@ -77,6 +82,10 @@ pub record Fills (p l : ℕ) (a b : Line) (x y : List ℕ) : Type 0 where
   pub size : length y ≡ tileLength p
   pub good : Good p l y
   pub agrees : EqualOutsideBoth p a b x y
+
+-- "its XOR with the good tile": x with each of its bytes XORed with that of y
+unfoldable pub xored : List ℕ → List ℕ → List ℕ
+xored x y = tabulate (length x) (λ k. getD x k 0 ⊕ getD y k 0)
 
 -- a list of bytes
 abbrev pub Bytes : List ℕ → Type 0
