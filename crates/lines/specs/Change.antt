@@ -1,5 +1,5 @@
 -- A change added to a tile. Assumes nothing.
-use mathlib.Core.Path.{_≡_, refl, sym, ap, _∙_}
+use mathlib.Core.Path.{_≡_, refl, sym, ap, ap₂, _∙_}
 use mathlib.Core.List.{List}
 use Prim.Native.Nat.{ℕ, _+_, _-_, _*_, _≤_, _<_}
 use native.Mathlib.Nat.{mul-le-mul, mul-le-mul-left}
@@ -12,6 +12,7 @@ use borrow.Author.Tests.{eq-eqb, ne-eqb}
 use Rattle.xor.specs.Xor.{_⊕_, assoc, zero-r}
 use Rattle.xor.specs.Sum.{xorBelow, keep, keep-comm, none, more, ext, at}
 use Rattle.code.specs.Tile.{Cells, tileLength, place, cell}
+use Rattle.code.specs.Sums.{lone}
 use Rattle.code.specs.Place.{cell-in, place-lt, place-is, place-one}
 use Rattle.code.specs.OneLine.{number, rowAt, columnAt, along}
 use Rattle.code.specs.declared.Line.{Line}
@@ -87,6 +88,12 @@ place-test p i j i′ j′ x h h′ = go (ℕ-discrete i i′) (ℕ-discrete j j
     go (yes e) (yes d) = rw (e, d, eq-eqb i′ i′ refl, eq-eqb j′ j′ refl, eq-eqb (place p i′ j′) (place p i′ j′) refl)
     go (yes e) (no d) = rw (e, eq-eqb i′ i′ refl, ne-eqb j j′ d, ne-eqb (place p i′ j′) (place p i′ j) (λ q. d (sym (place-one p i′ j′ i′ j h′ h q .1))))
     go (no e) b = rw (ne-eqb i i′ e, ne-eqb (place p i′ j′) (place p i j) (λ q. e (sym (place-one p i′ j′ i j h′ h q .0))))
+
+-- a byte that is added to one cell
+pub cell-added : (p i j x k : ℕ) (y : List ℕ) → j < p - 1 → k ≡ place p i j → k < length y → Added p (lone i j x) y (set y k (bitXor (held y k) x))
+cell-added p i j x k y hj e h i′ j′ hi′ hj′ =
+    cell-in p (set y k (bitXor (held y k) x)) i′ j′ hi′ hj′ ∙ hit y k x (place p i′ j′) h
+    ∙ ap₂ _⊕_ (sym (cell-in p y i′ j′ hi′ hj′)) (ap (λ (m : ℕ). keep (eqb m (place p i′ j′)) x) e ∙ place-test p i′ j′ i j x hj′ hj)
 
 -- what the run of a line adds to a cell
 line-part : (p : ℕ) (a : Line) (x : ℕ → ℕ) (i j : ℕ) → number a < p - 1 → i < p - 1 → j < p - 1

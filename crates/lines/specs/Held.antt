@@ -1,5 +1,5 @@
 -- What the engine's arrays hold, and what it asks of a tile. Assumes nothing.
-use mathlib.Core.Path.{_≡_, refl, sym}
+use mathlib.Core.Path.{_≡_, refl, sym, ap, _∙_}
 use mathlib.Core.List.{List}
 use Prim.Native.Nat.{ℕ, zero, suc, _+_, _%_, _≤_, _<_}
 use native.Mathlib.Decide.{ℕ-discrete}
@@ -10,7 +10,7 @@ use lib.Seq.{getD-set-same, getD-set-other}
 use borrow.Author.Tests.{eq-eqb, ne-eqb}
 use Rattle.xor.specs.Xor.{_⊕_, ⊕-is, zero-r}
 use Rattle.xor.specs.Sum.{keep}
-use Rattle.code.specs.Tile.{Cells, tileLength, sum}
+use Rattle.code.specs.Tile.{Cells, tileLength, line, sum}
 
 -- what an array or a slice holds, place by place
 abbrev pub held : List ℕ → ℕ → ℕ
@@ -32,6 +32,10 @@ pub record Stepped (p t s r : ℕ) : Type 0 where
   pub is : r ≡ (t + s) % p
   pub lt : r < p
 
+-- x is added to the sum of the slope-s line through the cell in row i and column j
+abbrev pub ByteAdded : ℕ → ℕ → ℕ → ℕ → ℕ → List ℕ → List ℕ → Type 0
+ByteAdded p s i j x sums sums′ = (t : ℕ) → held sums′ t ≡ held sums t ⊕ keep (eqb (line p s i j) t) x
+
 -- all sums are one byte
 pub record AllOne (p : ℕ) (A B : ℕ → ℕ) : Type 0 where
   pub first : (t : ℕ) → t < p → A t ≡ A 0
@@ -44,6 +48,10 @@ hit out k x t h = go (ℕ-discrete t k)
     go : Dec (t ≡ k) → held (set out k (bitXor (held out k) x)) t ≡ held out t ⊕ keep (eqb k t) x
     go (yes e) = rw (e, eq-eqb k k refl, getD-set-same out k (bitXor (held out k) x) 0 h) (⊕-is (held out k) x)
     go (no d) = rw (ne-eqb k t (λ e. d (sym e)), getD-set-other out k t (bitXor (held out k) x) 0 d) (sym (zero-r (held out t)))
+
+-- .. where k is the slope-s line through a cell
+pub byte-added : (p s i j x : ℕ) (sums : List ℕ) (k : ℕ) → k ≡ line p s i j → k < length sums → ByteAdded p s i j x sums (set sums k (bitXor (held sums k) x))
+byte-added p s i j x sums k e h t = hit sums k x t h ∙ ap (λ (u : ℕ). held sums t ⊕ keep (eqb u t) x) e
 
 -- an array of zeros holds 0 at each place
 pub zeros-held : (n k : ℕ) → held (replicate n 0) k ≡ 0

@@ -1,10 +1,19 @@
 // Places and lines modulo p.
 use code::Line;
 ghost use mathlib.Core.Path.{_≡_};
-ghost use Prim.Native.Nat.{_+_, _≤_, _<_};
+ghost use Prim.Native.Nat.{_+_, _-_, _≤_, _<_};
 ghost use Rattle.residue.specs.Remainder as remainder;
+ghost use Rattle.code.specs.Tile as tile;
 ghost use Rattle.code.specs.OneLine as law;
 ghost use Rattle.lines.specs.Held.{Stepped};
+
+// Where the cell in row i and column j stands in memory.
+pub fn place(p: usize, i: usize, j: usize) -> usize
+    requires { ⌜ (i < p - 1) × (j < p - 1) × (p ≤ 257) ⌝ }
+    ensures { λ r. ⌜ r ≡ tile.place p i j ⌝ }
+{
+    i * (p - 1) + j
+}
 
 // The place a step of s after t.
 pub fn step(p: usize, t: usize, s: usize) -> usize

@@ -1,11 +1,13 @@
 // The sums of a tile's lines.
 use crate::index::step;
+use crate::index::through;
+use code::Line;
 ghost use mathlib.Core.Path.{_≡_};
 ghost use Prim.Native.Nat.{_-_, _≤_, _<_};
 ghost use lib.ListN.{length};
 ghost use Rattle.code.specs.Tile.{cell, Good};
 ghost use Rattle.size.specs.Answer.{Says};
-ghost use Rattle.lines.specs.Held.{held, Shape, Sums, AllOne};
+ghost use Rattle.lines.specs.Held.{held, Shape, Sums, AllOne, ByteAdded};
 ghost use Rattle.lines.specs.Walk.{RowAdded};
 
 // The sums of the slope-s lines of a tile: that of line t stands at t. The tile is walked row by row.
@@ -37,6 +39,16 @@ fn add_row(p: usize, s: usize, tile: &[u8], i: usize, sums: &mut [u8; 257])
         t = step(p, t, s);
         j += 1;
     }
+}
+
+// Adds a byte to the sum of the slope-s line through the cell in row i and column j.
+pub fn add_byte(p: usize, s: usize, i: usize, j: usize, x: u8, sums: &mut [u8; 257])
+    requires { ⌜ (i < p) × (j < p) × (s < p) × (p ≤ 257) × (length (now sums) ≡ 257) ⌝ }
+    ensures { λ _. ⌜ ByteAdded p s i j x (now (sums .entry)) (now (sums .exit)) ⌝ }
+    ensures { λ _. ⌜ length (now (sums .exit)) ≡ 257 ⌝ }
+{
+    let t = through(p, s, Line::Row(i), j);
+    sums[t] = sums[t] ^ x;
 }
 
 // Is the tile good?

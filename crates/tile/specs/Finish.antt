@@ -6,7 +6,6 @@ use native.Mathlib.Omega.{arith}
 use lib.ListN.{length}
 use Rattle.code.specs.Slope.{Slope, allowed-slope}
 use Rattle.code.specs.Tile.{cell, sum, Good}
-use Rattle.code.specs.Settle.{settles-sums}
 use Rattle.code.specs.OneLine.{number, Agree, along}
 use Rattle.code.specs.declared.Line.{Line}
 use Rattle.code.specs.declared.Line.the-variants.{Row, Column}
@@ -16,13 +15,14 @@ use Rattle.lines.specs.Solve.{SettledBy, Unsettled}
 use Rattle.lines.specs.Good.{one-good, good-one}
 use Rattle.lines.specs.Hurt as hurt
 use Rattle.lines.specs.Change.{Added}
+use Rattle.lines.specs.Checks.{ChecksSettled}
 use Rattle.lines.specs.Text.{Laid}
 use Rattle.lines.specs.declared.hurt.Hurt.{Hurt}
 use Rattle.lines.specs.declared.hurt.Hurt.the-variants as found
 use Rattle.tile.specs.Answer.{done, clean, column, row, refused}
 use Rattle.tile.specs.Calls.{Admitted, TileLength, BothLengths, WriteTold, writes, Unexplained, RepairTold, is-good, by-column, by-row, by-none, Has, FillTold, fills, none}
 use Rattle.tile.specs.Admit.{admitted-well}
-use Rattle.tile.specs.Made.{line-explains, line-unexplained, lines-fill, lines-unfilled, laid-writes}
+use Rattle.tile.specs.Made.{line-explains, line-unexplained, lines-fill, checks-fill, lines-unfilled, laid-writes}
 
 -- the slope that was admitted
 pub slope-of : {p l : ℕ} {Lengths : Type 0} → Admitted p l Lengths size.well → Slope p l
@@ -87,13 +87,10 @@ ends-unfilled p l b c x a h n = none a (h .0) (h .1) (lines-unfilled p l b c x n
 
 -- ---- write
 
--- the text is laid in, and the check columns' changes are added
-pub ends-written : (p l : ℕ) (X Y A B : ℕ → ℕ) (text x y z w : List ℕ) → Admitted p l (BothLengths p x text) size.well → Laid p text x y
+-- the text is laid in, and the check columns settle the sums
+pub ends-written : (p l : ℕ) (A B : ℕ → ℕ) (text x y z : List ℕ) → Admitted p l (BothLengths p x text) size.well → Laid p text x y
     → ((t : ℕ) → t < p → A t ≡ sum p 1 (cell p y) t) → ((t : ℕ) → t < p → B t ≡ sum p l (cell p y) t)
-    → SettledBy p l (Column (p - 3)) (Column (p - 2)) A B X Y
-    → length z ≡ length y → length w ≡ length z → Added p (along (Column (p - 3)) X) y z → Added p (along (Column (p - 2)) Y) z w → WriteTold p l text x done w
-ends-written p l X Y A B text x y z w a laid ha hb s ez ew first second =
+    → ChecksSettled p l A B y z → WriteTold p l text x done z
+ends-written p l A B text x y z a laid ha hb settled =
     let h = admitted-well a in
-    writes a (laid-writes p l text x y w (omega (arith, h .0 .low)) (h .2 .1) laid
-    (lines-fill p l (Column (p - 3)) (Column (p - 2)) X Y y z w (omega (arith, h .0 .low)) (omega (arith, h .0 .low)) (ew ∙ ez ∙ laid .size ∙ h .2 .0)
-    (record { settles = settles-sums p l A B _ _ _ ha hb (s .settles); first = s .first; second = s .second }) first second))
+    writes a (laid-writes p l text x y z (omega (arith, h .0 .low)) (h .2 .1) laid (checks-fill p l A B y z (laid .size ∙ h .2 .0) ha hb settled))

@@ -10,7 +10,7 @@ use Rattle.code.specs.Slope.{Slope, slope-inverse}
 use Rattle.code.specs.Tile.{Cells, tileLength, cell, sum, Good, textLength, Writes, On, Fills}
 use Rattle.code.specs.Sums.{Padded, plus, padded-plus, one-sum-ext}
 use Rattle.code.specs.Place.{cell-padded, same-within, difference, difference-padded, text-is}
-use Rattle.code.specs.Settle.{Settles, settles-good, settles-ext}
+use Rattle.code.specs.Settle.{Settles, settles-good, settles-ext, settles-sums}
 use Rattle.code.specs.OneLine.{number, Agree, shifted, along, along-off, along-ext, along-padded, one-line-settles}
 use Rattle.code.specs.Filling.{filled-settles, filled-off}
 use Rattle.code.specs.declared.Line.{Line}
@@ -18,6 +18,7 @@ use Rattle.code.specs.declared.Line.the-variants.{Column}
 use Rattle.lines.specs.Column.{Shifted}
 use Rattle.lines.specs.Solve.{SettledBy, Unsettled}
 use Rattle.lines.specs.Change.{Added}
+use Rattle.lines.specs.Checks.{ChecksSettled}
 use Rattle.lines.specs.Text.{Laid}
 use Rattle.tile.specs.Calls.{Explains, Unexplained, Has}
 use Rattle.tile.specs.Explain.{explains-has, explained}
@@ -61,6 +62,16 @@ lines-fill p l a b X Y x y z ha hb size s first second = record {
       (padded-plus p (along a X) (along b Y) (along-padded p a X ha (s .first)) (along-padded p b Y hb (s .second))) (s .settles)
       (λ i j hi hj. second i j hi hj ∙ ap (λ (w : ℕ). w ⊕ along b Y i j) (first i j hi hj) ∙ assoc _ _ _);
   agrees = λ i j hi hj d e. unchanged p a X x y first i j hi hj d ∙ unchanged p b Y y z second i j hi hj e;
+}
+
+-- a change in the check columns
+pub checks-fill : (p l : ℕ) (A B : ℕ → ℕ) (x y : List ℕ) → length x ≡ tileLength p → ((t : ℕ) → t < p → A t ≡ sum p 1 (cell p x) t)
+    → ((t : ℕ) → t < p → B t ≡ sum p l (cell p x) t) → ChecksSettled p l A B x y → Fills p l (Column (p - 3)) (Column (p - 2)) x y
+checks-fill p l A B x y e ha hb c = record {
+  size = c .size ∙ e;
+  good = changed-good p l x y (c .by) (c .padded) (settles-sums p l A B _ _ (c .by) ha hb (c .settles)) (c .added);
+  agrees = λ i j hi hj d q.
+      sym (c .added i j hi hj ∙ ap (λ (w : ℕ). cell p x i j ⊕ w) (c .off i j (omega arith) (omega arith) d q) ∙ zero-r _);
 }
 
 -- where no change settles the sums there is no filling

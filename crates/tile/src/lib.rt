@@ -1,12 +1,11 @@
 // The tile calls: write, read, repair and fill. None asks anything of its input: what cannot be done is refused by number, and a
 // refused call changes no byte that was lent to it.
 use lines::change::add_line;
+use lines::checks;
 use lines::filling;
 use lines::hurt;
 use lines::hurt::Hurt;
 use lines::index::number;
-use lines::pair;
-use lines::pair::Pair;
 use lines::sums::is_good;
 use lines::sums::line_sums;
 use lines::text;
@@ -36,7 +35,7 @@ pub enum Repaired {
 }
 
 // Judges the size, the slope and the tile's length: refusals 1, 2 and 3, in that order.
-fn judge_tile(p: usize, l: usize, cells: usize) -> Judgement
+pub fn judge_tile(p: usize, l: usize, cells: usize) -> Judgement
     ensures { λ r. ⌜ Admitted p l (cells ≡ tileLength p) (judgementSaid r) ⌝ }
 {
     match size::judge(p, l) {
@@ -74,22 +73,10 @@ pub fn write(p: usize, l: usize, text: &[u8], tile: &mut [u8]) -> Outcome
     match judge_text(p, l, tile.len(), text.len()) {
         Judgement::Refused(refusal) => Outcome::Refused(refusal),
         Judgement::Taken => {
-            let first = p - 3;
-            let second = p - 2;
             text::lay(p, text, tile);
             let a = line_sums(p, 1, tile);
             let b = line_sums(p, l, tile);
-            let checks = Pair {
-                p: p,
-                l: l,
-                column: first,
-                line: Line::Column(second),
-            };
-            let changes = pair::solve(checks, &a, &b);
-            let x = changes.column;
-            let y = changes.line;
-            add_line(p, Line::Column(first), &x, tile);
-            add_line(p, Line::Column(second), &y, tile);
+            checks::settle(p, l, &a, &b, tile);
             Outcome::Done
         }
     }

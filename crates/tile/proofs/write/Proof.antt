@@ -3,7 +3,7 @@ use mathlib.Core.Path.{_∙_}
 use native.Mathlib.Omega.{arith}
 use borrow.Author.Needs.{needs}
 use Rattle.lines.specs.Held.{held}
-use Rattle.lines.specs.Cases.{held-totals, columns-close}
+use Rattle.lines.specs.Cases.{held-totals}
 use Rattle.tile.specs.Calls.{refuses}
 use Rattle.tile.specs.Admit.{admitted-well}
 use Rattle.tile.specs.Finish.{slope-of, ends-written}
@@ -18,12 +18,6 @@ enum-known-refusal c = search needs
 
 enum-told : tie.Need-enum-told
 enum-told c = search needs
-
-sub-first : tie.Need-sub-first
-sub-first c = let w = admitted-well (rw (c .enum-told .given .1) at (c .before .before .judge-text .ensures)) in omega (arith, w .0 .low)
-
-sub-second : tie.Need-sub-second
-sub-second c = let w = admitted-well (rw (c .enum-told .given .1) at (c .before .before .judge-text .ensures)) in omega (arith, w .0 .low)
 
 lay-requires : tie.Need-lay-requires
 lay-requires c κs =
@@ -44,37 +38,21 @@ line-sums-requires-2 c κs =
     let w = admitted-well (rw (laid .before .before .enum-told .given .1) at (judged .judge-text .ensures)) in
     record { low = omega (arith, w .0 .low); high = w .0 .high; slope = omega (arith, w .1 .high); size = laid .lay .ensures .size ∙ w .2 .0 }
 
-solve-requires : tie.Need-solve-requires
-solve-requires c κs =
-    let summed = c .before .before .before .before in
-    let told = summed .before .before .before .before .before .before in
-    let start = told .before .before .before .before .before in
-    let a = rw (told .enum-told .given .1) at (told .before .before .judge-text .ensures) in
-    let w = admitted-well a in
-    let first = summed .line-sums in
-    let second = c .before .before .line-sums2 in (
+settle-requires : tie.Need-settle-requires
+settle-requires c κs =
+    let second = c .before .before .before in
+    let first = second .before .before in
+    let laid = first .before .before .before .before in
+    let judged = laid .before .before .before .before in
+    let start = judged .before .before .before in
+    let a = rw (laid .before .before .enum-told .given .1) at (judged .judge-text .ensures) in
+    let w = admitted-well a in (
       slope-of a,
       (
-        (w .0 .high, omega (arith, w .0 .low), omega (arith, w .0 .low)),
-        columns-close (start .args .p) (start .args .l) (held (first .result)) (held (second .result)) (slope-of a) _ _ (omega (arith, w .0 .low)) (omega (arith, w .0 .low)) (omega (arith, w .0 .low))
-            (held-totals (start .args .p) (start .args .l) _ (first .result) (second .result) (first .ensures) (second .ensures)),
+        (w .0 .high, laid .lay .ensures .size ∙ w .2 .0),
+        held-totals (start .args .p) (start .args .l) _ (first .line-sums .result) (second .line-sums2 .result) (first .line-sums .ensures) (second .line-sums2 .ensures),
       ),
     )
-
-add-line-requires : tie.Need-add-line-requires
-add-line-requires c κs =
-    let laid = c .before .before .before .before .before .before .before .before .before .before .before .before .before in
-    let judged = laid .before .before .before .before in
-    let w = admitted-well (rw (laid .before .before .enum-told .given .1) at (judged .judge-text .ensures)) in
-    (omega (arith, w .0 .low), w .0 .high, laid .lay .ensures .size ∙ w .2 .0, omega (arith, w .0 .low))
-
-add-line-requires-2 : tie.Need-add-line-requires-2
-add-line-requires-2 c κs =
-    let changed = c .before .before .before .before in
-    let laid = changed .before .before .before .before .before .before .before .before .before .before .before .before .before .before in
-    let judged = laid .before .before .before .before in
-    let w = admitted-well (rw (laid .before .before .enum-told .given .1) at (judged .judge-text .ensures)) in
-    (omega (arith, w .0 .low), w .0 .high, changed .add-line .ensures .1 ∙ laid .lay .ensures .size ∙ w .2 .0, omega (arith, w .0 .low))
 
 returns : tie.Need-returns
 returns c = refuses (rw (c .before .refusal .given .1) at (c .before .before .before .judge-text .ensures))
@@ -84,20 +62,14 @@ same-length c = search needs
 
 returns-2 : tie.Need-returns-2
 returns-2 c =
-    let changed = c .before .before .before .before .before .before .before in
-    let solved = changed .before .before .before .before .before in
-    let summed-again = solved .before .before .before in
-    let laid = summed-again .before .before .before .before .before .before in
+    let settled = c .before .before in
+    let second = settled .before .before .before .before in
+    let first = second .before .before in
+    let laid = first .before .before .before .before in
     let judged = laid .before .before .before .before in
     let start = judged .before .before .before in
-    let first = summed-again .before .before .line-sums in
-    let second = summed-again .line-sums2 in
-    let changes = solved .solve in
-    let one = changed .add-line in
-    let two = c .before .before .add-line2 in
-    ends-written (start .args .p) (start .args .l) (held (changes .result .column)) (held (changes .result .line)) (held (first .result)) (held (second .result))
-    (start .args .text .now) (start .args .tile .now) _ _ _ (rw (laid .before .before .enum-told .given .1) at (judged .judge-text .ensures)) (laid .lay .ensures) (first .ensures) (second .ensures) (changes .ensures)
-    (one .ensures .1) (two .ensures .1) (one .ensures .0) (two .ensures .0)
+    ends-written (start .args .p) (start .args .l) (held (first .line-sums .result)) (held (second .line-sums2 .result)) (start .args .text .now) (start .args .tile .now) _ _
+    (rw (laid .before .before .enum-told .given .1) at (judged .judge-text .ensures)) (laid .lay .ensures) (first .line-sums .ensures) (second .line-sums2 .ensures) (settled .settle .ensures)
 
 pub write-spec : {M : Type 1} → statement M
 write-spec =
@@ -106,14 +78,10 @@ write-spec =
     judge-text-requires
     enum-known-refusal
     enum-told
-    sub-first
-    sub-second
     lay-requires
     line-sums-requires
     line-sums-requires-2
-    solve-requires
-    add-line-requires
-    add-line-requires-2
+    settle-requires
     returns
     same-length
     returns-2)
