@@ -1,13 +1,13 @@
 -- Tests that antt computes, each with what it shows where it passes: that a tile at p 5, l 2 is good or not, that a tile is the filling of
--- another, or that there is none. Assumes nothing.
+-- another, or that there is none; and lists of cases, each with its test. Assumes nothing.
 use mathlib.Core.Path.{_≡_, refl, sym, ap₂, _∙_}
 use mathlib.Core.Bool.{Bool, true, false, _&&_, not}
 use mathlib.Core.List.{List, [], _∷_}
-use Prim.Native.Nat.{ℕ, _≤_, _<_}
+use Prim.Native.Nat.{ℕ, zero, suc, _≤_, _<_}
 use native.Mathlib.Nat.{zero-lt-suc}
 use native.Mathlib.Omega.{arith}
 use lib.Dec.{T, T-not, not-T, eqb, eqb→eq, eqb-refl, leb, leb→le}
-use lib.ListN.{length}
+use lib.ListN.{length, getD}
 use Rattle.code.specs.Slope.{Slope, allowed-slope}
 use Rattle.code.specs.Tile.{tileLength, cell, line, sum, Good, On, EqualOutsideBoth, Fills}
 use Rattle.code.specs.Test.{and-left, and-right, and-both, imp, imp-on, upTo, up-at, at-up}
@@ -53,7 +53,7 @@ abbrev refuted : {A : Type 0} (b : Bool) → (A → T b) → Test (A → ⊥)
 refuted b f = record { pass = not b; shows = λ h a. T-not b h (f a) }
 
 -- a test that passes for each k below n
-abbrev below : (P : ℕ → Type 0) (n : ℕ) → ((k : ℕ) → Test (P k)) → Test ((k : ℕ) → k < n → P k)
+abbrev pub below : (P : ℕ → Type 0) (n : ℕ) → ((k : ℕ) → Test (P k)) → Test ((k : ℕ) → k < n → P k)
 below P n t = record { pass = upTo (λ k. t k .pass) n; shows = λ h k q. t k .shows (up-at (λ k. t k .pass) n h k q) }
 
 -- ---- numbers and lists
@@ -83,6 +83,25 @@ same [] [] = record { pass = true; shows = λ h. refl }
 same [] (y ∷ ys) = never
 same (x ∷ xs) [] = never
 same (x ∷ xs) (y ∷ ys) = so (both (equal x y) (same xs ys)) (λ t. ap₂ _∷_ (t .0) (t .1))
+
+-- ---- lists of cases
+
+module _ {Case : Type 0} (Claim : Case → Type 0) where
+  -- what a list of cases claims: each of them
+  abbrev pub Each : List Case → Type 0
+  Each [] = Unit {0}
+  Each (c ∷ cs) = Claim c × Each cs
+
+  -- the test of a list of cases
+  unfoldable pub each : ((c : Case) → Test (Claim c)) → (cs : List Case) → Test (Each cs)
+  each tested [] = record { pass = true; shows = λ h. tt }
+  each tested (c ∷ cs) = both (tested c) (each tested cs)
+
+  -- the claim of one case of a list, counted from 0 (c stands for those past the end)
+  pub numbered : (c : Case) → Claim c → (cs : List Case) → Each cs → (k : ℕ) → Claim (getD cs k c)
+  numbered c h [] t k = h
+  numbered c h (d ∷ ds) t zero = t .0
+  numbered c h (d ∷ ds) t (suc k) = numbered c h ds (t .1) k
 
 -- ---- tiles at p 5, l 2
 

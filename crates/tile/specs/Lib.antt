@@ -7,6 +7,7 @@ pub mod Made
 pub mod Finish
 pub mod Once
 pub mod Promise
+pub mod Carry
 pub mod Decide
 pub mod Worked
 pub mod Shams

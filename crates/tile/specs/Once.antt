@@ -27,8 +27,8 @@ use Rattle.tile.specs.declared.Repaired.the-variants as repair
 -- ---- what the four calls share
 
 -- R allows one outcome at most
-abbrev pub Single : (Said → List ℕ → Type 0) → Type 0
-Single R = (a b : Said) (x y : List ℕ) → R a x → R b y → (a ≡ b) × (x ≡ y)
+abbrev pub Single : {Answer : Type 0} → (Answer → List ℕ → Type 0) → Type 0
+Single {Answer} R = (a b : Answer) (x y : List ℕ) → R a x → R b y → (a ≡ b) × (x ≡ y)
 
 -- one answer, with bytes of which P holds ..
 abbrev Only : Said → (List ℕ → Type 0) → Said → List ℕ → Type 0

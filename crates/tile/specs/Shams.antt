@@ -13,14 +13,14 @@ use Rattle.tile.specs.Answer.{Said, done, clean, column, row, refused}
 use Rattle.tile.specs.Calls.{judged, WriteTold, ReadTold, RepairTold, FillTold}
 use Rattle.tile.specs.Once.{repair-told-once}
 use Rattle.tile.specs.Promise.{read-after-write, write-refused}
-use Rattle.tile.specs.Worked.{Exactly, claimed, zeros, text-1, tile-1, text-2, tile-2, tile-4, tile-9, tile-10, copied-1, hurt-2}
+use Rattle.tile.specs.Worked.{Exactly, claimed, other-claimed, zeros, text-1, tile-1, text-2, tile-2, tile-4, tile-9, tile-10, copied-1, hurt-2}
 
 -- where a call allows one outcome, it does not allow another answer, nor other bytes
-module _ (R : Said → List ℕ → Type 0) {s : Said} {x : List ℕ} (told : Exactly R s x) (t : Said) (y : List ℕ) where
-  wrong-answer : (t ≡ s → _≡_ {A = ℕ} 0 1) → R t y → ⊥
+module _ {Answer : Type 0} (R : Answer → List ℕ → Type 0) {s : Answer} {x : List ℕ} (told : Exactly R s x) (t : Answer) (y : List ℕ) where
+  pub wrong-answer : (t ≡ s → _≡_ {A = ℕ} 0 1) → R t y → ⊥
   wrong-answer f r = let z = f (told .1 t y r .0) in omega arith
 
-  wrong-bytes : (y ≡ x → _≡_ {A = ℕ} 0 1) → R t y → ⊥
+  pub wrong-bytes : (y ≡ x → _≡_ {A = ℕ} 0 1) → R t y → ⊥
   wrong-bytes f r = let z = f (told .1 t y r .1) in omega arith
 
 -- ---- repair
@@ -39,15 +39,15 @@ rows-first = wrong-answer (RepairTold 5 2 tile-4) (claimed 4) (row 2) zeros (λ 
 
 -- a repair that calls an undamaged tile "column 0"
 pub undamaged-column-0 : RepairTold 5 2 zeros (column 0) zeros → ⊥
-undamaged-column-0 = wrong-answer (RepairTold 5 2 zeros) (claimed 13) (column 0) zeros (λ e. cc)
+undamaged-column-0 = wrong-answer (RepairTold 5 2 zeros) (other-claimed 3) (column 0) zeros (λ e. cc)
 
 -- a repair that demands even sums, and so finds tile 2 hurt
 pub repair-even-sums : (said : Said) (new : List ℕ) → (said ≡ clean → ⊥) → RepairTold 5 2 tile-2 said new → ⊥
-repair-even-sums said new d r = d (claimed 14 .1 said new r .0)
+repair-even-sums said new d r = d (other-claimed 4 .1 said new r .0)
 
 -- a repair that takes the shifted sums of tile 2's column 0 for its damage, and leaves the common byte 1 in them
 pub common-byte-left : RepairTold 5 2 hurt-2 (column 0) (1 ∷ 1 ∷ 1 ∷ 1 ∷ 0 ∷ 0 ∷ 0 ∷ 1 ∷ 1 ∷ 1 ∷ 1 ∷ 0 ∷ 0 ∷ 1 ∷ 1 ∷ 1 ∷ []) → ⊥
-common-byte-left = wrong-bytes (RepairTold 5 2 hurt-2) (claimed 15) (column 0) _ (λ e. cc)
+common-byte-left = wrong-bytes (RepairTold 5 2 hurt-2) (other-claimed 5) (column 0) _ (λ e. cc)
 
 -- ---- fill
 

@@ -1,14 +1,14 @@
--- The starred worked tiles of document 01, as one list with a single claim. The tiles are at p 5, l 2, written row by row; each claim is
--- decided by a test that is computed, and the laws that the test is right. Assumes nothing.
+-- The starred worked tiles 1 to 10 of document 01, as one list with a single claim (tile 11, whose sheet stands above this crate, joins it
+-- in `sheet/specs/Worked.antt`). The tiles are at p 5, l 2, written row by row; each claim is decided by a test that is computed, and the
+-- laws that the test is right. Assumes nothing.
 use mathlib.Core.Path.{_≡_, refl, sym, ap, _∙_}
-use mathlib.Core.Bool.{true}
 use mathlib.Core.List.{List, [], _∷_}
-use Prim.Native.Nat.{ℕ, zero, suc, _+_, _-_}
+use Prim.Native.Nat.{ℕ, _+_, _-_}
 use lib.ListN.{length, getD}
 use Rattle.xor.specs.Xor.{_⊕_}
 use Rattle.xor.specs.Sum.{xorBelow}
 use Rattle.code.specs.Tabulate.{tabulate}
-use Rattle.code.specs.Tile.{tileLength, place, cell, sum, Good, textLength, textOf, Writes}
+use Rattle.code.specs.Tile.{tileLength, place, cell, sum, Good, textLength, textFrom, textOf, Writes}
 use Rattle.code.specs.Test.{upTo}
 use Rattle.code.specs.Place.{text-length}
 use Rattle.code.specs.OneLine.{number}
@@ -20,7 +20,7 @@ use Rattle.tile.specs.Answer.{Said, done, clean, column, row, refused}
 use Rattle.tile.specs.Calls.{Admitted, TileLength, WriteTold, ReadTold, RepairTold, FillTold}
 use Rattle.tile.specs.Admit.{admits}
 use Rattle.tile.specs.Once.{Single, write-told-once, read-told-once, repair-told-once, fill-told-once}
-use Rattle.tile.specs.Decide.{Test, never, so, both, equal, at-most, same, sumOf, good, common-is, not-good, outside, filling, explaining, none-of, none, no-line, uncrossed, no-filling}
+use Rattle.tile.specs.Decide.{Test, never, so, both, equal, at-most, same, sumOf, good, common-is, not-good, outside, filling, explaining, none-of, none, no-line, uncrossed, no-filling, Each, each, numbered}
 
 -- ---- the tiles
 
@@ -109,8 +109,8 @@ pub data Case : Type 0 where
   fills : List ℕ → Line → Line → Said → List ℕ → Case
 
 -- a call allows this outcome, and no other
-abbrev pub Exactly : (Said → List ℕ → Type 0) → Said → List ℕ → Type 0
-Exactly R s x = R s x × ((t : Said) (y : List ℕ) → R t y → (t ≡ s) × (y ≡ x))
+abbrev pub Exactly : {Answer : Type 0} → (Answer → List ℕ → Type 0) → Answer → List ℕ → Type 0
+Exactly {Answer} R s x = R s x × ((t : Answer) (y : List ℕ) → R t y → (t ≡ s) × (y ≡ x))
 
 -- what a case claims. A tile is written whatever the lent tile held, and a tile that is not good is refused whatever the lent text held
 abbrev pub Claim : Case → Type 0
@@ -120,13 +120,7 @@ Claim (spoiled tile) = (Good 5 2 tile → ⊥) × ((page : List ℕ) → length 
 Claim (repairs tile said new) = Exactly (RepairTold 5 2 tile) said new
 Claim (fills tile a b said new) = Exactly (FillTold 5 2 tile a b) said new
 
--- what a list of cases claims: each of them
-abbrev pub Each : List Case → Type 0
-Each [] = Unit {0}
-Each (c ∷ cs) = Claim c × Each cs
-
--- tiles 1 to 10; then from 11 on two that are not good, two that are not hurt, one whose column is repaired though its sums are not zero, and
--- tile 9 again, with other bytes in the flagged lines
+-- tiles 1 to 10
 abbrev pub cases : List Case
 cases =
     writes text-1 tile-1 0
@@ -139,7 +133,13 @@ cases =
     ∷ repairs tile-8 (column 3) repaired-8
     ∷ fills tile-9 (Row 0) (Column 0) done filled-9
     ∷ fills tile-10 (Row 0) (Column 0) (refused 5) tile-10
-    ∷ spoiled changed-3
+    ∷ []
+
+-- and others: two tiles that are not good, two that are not hurt, one whose column is repaired though its sums are not zero, and tile 9
+-- again, with other bytes in the flagged lines
+abbrev pub others : List Case
+others =
+    spoiled changed-3
     ∷ spoiled copied-1
     ∷ repairs zeros clean zeros
     ∷ repairs tile-2 clean tile-2
@@ -150,11 +150,11 @@ cases =
 -- ---- the tests
 
 -- an outcome that is allowed is the only one, where one is allowed at most
-exactly : (R : Said → List ℕ → Type 0) → Single R → (s : Said) (x : List ℕ) → R s x → Exactly R s x
+pub exactly : {Answer : Type 0} (R : Answer → List ℕ → Type 0) → Single R → (s : Answer) (x : List ℕ) → R s x → Exactly R s x
 exactly R once s x r = (r, λ t y q. once t s y x q r)
 
 -- what repair says and leaves, of a tile that is admitted
-mends : (x : List ℕ) (s : Said) (y : List ℕ) → Test (Admitted 5 2 (TileLength 5 x) size.well → RepairTold 5 2 x s y)
+unfoldable pub mends : (x : List ℕ) (s : Said) (y : List ℕ) → Test (Admitted 5 2 (TileLength 5 x) size.well → RepairTold 5 2 x s y)
 mends x done y = never
 mends x clean y = so (both (same y x) (good x)) (λ t h. rw (t .0) (RepairTold.is-good h (t .1)))
 mends x (column c) y =
@@ -168,7 +168,7 @@ mends x (refused n) y =
     rw (t .0, t .1 .0) (RepairTold.by-none h (t .1 .1 .1 (t .1 .1 .0))))
 
 -- what fill says and leaves, of a tile that is admitted
-filled : (x : List ℕ) (a b : Line) (s : Said) (y : List ℕ) → Test (Admitted 5 2 (TileLength 5 x) size.well → FillTold 5 2 x a b s y)
+unfoldable pub filled : (x : List ℕ) (a b : Line) (s : Said) (y : List ℕ) → Test (Admitted 5 2 (TileLength 5 x) size.well → FillTold 5 2 x a b s y)
 filled x a b done y =
     so (both (at-most (number a + 2) 5) (both (at-most (number b + 2) 5) (filling a b x y))) (λ t h. FillTold.fills h (t .0) (t .1 .0) (t .1 .1))
 filled x a b (refused n) y =
@@ -180,17 +180,17 @@ filled x a b (column c) y = never
 filled x a b (row r) y = never
 
 -- a tile is admitted if it has the right length
-admitted-tile : {A : Type 0} (x : List ℕ) → Test (Admitted 5 2 (TileLength 5 x) size.well → A) → Test A
+unfoldable pub admitted-tile : {A : Type 0} (x : List ℕ) → Test (Admitted 5 2 (TileLength 5 x) size.well → A) → Test A
 admitted-tile x s = so (both (equal (length x) (tileLength 5)) s) (λ t. t .1 (admits size-5 at-5-2 (t .0)))
 
 -- the tile is good and has the text
-writing : (text tile : List ℕ) → Test (Writes 5 2 text tile)
+unfoldable pub writing : (text tile : List ℕ) → Test (Writes 5 2 text tile)
 writing text tile =
     so (both (equal (length tile) (tileLength 5)) (both (good tile) (same (textOf 5 tile) text))) (λ t.
     record { size = t .0; good = t .1 .0; has = t .1 .1 })
 
 -- the test of a case
-tested : (c : Case) → Test (Claim c)
+unfoldable pub tested : (c : Case) → Test (Claim c)
 tested (writes text tile b) = so (both (writing text tile) (equal (sumOf tile 1 0) b)) (λ t. (
   λ lent e. exactly (WriteTold 5 2 text lent) (write-told-once 5 2 text lent) done tile
       (WriteTold.writes (admits size-5 at-5-2 (e, sym (ap length (t .0 .has)) ∙ text-length 5 tile)) (t .0)),
@@ -205,22 +205,20 @@ tested (repairs tile said new) =
 tested (fills tile a b said new) =
     so (admitted-tile tile (filled tile a b said new)) (exactly (FillTold 5 2 tile a b) (fill-told-once 5 2 tile a b) said new)
 
--- the test of a list of cases
-each : (cs : List Case) → Test (Each cs)
-each [] = record { pass = true; shows = λ h. tt }
-each (c ∷ cs) = both (tested c) (each cs)
-
 -- THE WORKED TILES: every claim of the list holds
-pub worked : Each cases
-unfolding each tested mends filled admitted-tile writing same good not-good outside filling none-of none no-line uncrossed no-filling upTo sum cell place textOf tabulate xorBelow _⊕_
-worked = each cases .shows tt
+pub worked : Each Claim cases
+unfolding each tested mends filled admitted-tile writing same good not-good outside filling none-of none no-line uncrossed no-filling upTo sum cell place textFrom textOf tabulate xorBelow _⊕_
+worked = each Claim tested cases .shows tt
 
--- the claim of one case of a list, counted from 0 (c stands for those past the end)
-numbered : (c : Case) → Claim c → (cs : List Case) → Each cs → (k : ℕ) → Claim (getD cs k c)
-numbered c h [] t k = h
-numbered c h (d ∷ ds) t zero = t .0
-numbered c h (d ∷ ds) t (suc k) = numbered c h ds (t .1) k
+-- and every claim of the others
+pub others-worked : Each Claim others
+unfolding each tested mends filled admitted-tile writing same good not-good outside filling none-of none no-line uncrossed no-filling upTo sum cell place textFrom textOf tabulate xorBelow _⊕_
+others-worked = each Claim tested others .shows tt
 
--- the claim of a case by its number, from 1 as document 01 numbers the tiles, and on from 11 past its ten
+-- the claim of a case by its number, as document 01 numbers the tiles
 pub claimed : (k : ℕ) → Claim (getD cases (k - 1) (writes text-1 tile-1 0))
-claimed k = numbered (writes text-1 tile-1 0) (worked .0) cases worked (k - 1)
+claimed k = numbered Claim (writes text-1 tile-1 0) (worked .0) cases worked (k - 1)
+
+-- and of the others, from 1 in the order in which they stand above
+pub other-claimed : (k : ℕ) → Claim (getD others (k - 1) (spoiled changed-3))
+other-claimed k = numbered Claim (spoiled changed-3) (others-worked .0) others others-worked (k - 1)
