@@ -1,0 +1,2 @@
+-- What the records of a sheet and of a reel share.
+pub mod Number

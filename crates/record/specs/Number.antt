@@ -1,0 +1,6 @@
+-- WHAT A READER MUST BELIEVE: the numbers of a record, in the words of document 01. Assumes nothing.
+use Prim.Native.Nat.{ℕ, _+_, _*_}
+
+-- "Numbers are big-endian here and on the reel."
+abbrev pub bigEndian : ℕ → ℕ → ℕ
+bigEndian high low = high * 256 + low

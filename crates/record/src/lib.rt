@@ -1,0 +1,10 @@
+// What the records of a sheet and of a reel share: their numbers.
+ghost use mathlib.Core.Path.{_≡_};
+ghost use Rattle.record.specs.Number.{bigEndian};
+
+// A number of two bytes, the high one first.
+pub fn number(high: u8, low: u8) -> usize
+    ensures { λ r. ⌜ r ≡ bigEndian high low ⌝ }
+{
+    high as usize * 256 + low as usize
+}

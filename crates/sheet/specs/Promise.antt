@@ -1,0 +1,162 @@
+-- WHAT THE PROMISE MEANS FOR A USER: what a sheet changes and what it leaves, in any tile, sound or not; that repair and fill come to the
+-- same after it as before; and that a corrected place is read as its last "is". Assumes nothing.
+use mathlib.Core.Path.{_≡_, refl, sym, ap, _∙_}
+use mathlib.Core.List.{List, []}
+use Prim.Native.Nat.{ℕ, _-_, _*_, _<_}
+use native.Mathlib.Omega.{arith}
+use lib.ListN.{length}
+use Rattle.xor.specs.Xor.{_⊕_, zero-r}
+use Rattle.code.specs.Size.{Size, Allowed}
+use Rattle.code.specs.Slope.{allowed-slope}
+use Rattle.code.specs.Tile.{tileLength, cell, Good, textLength, textOf, Writes, xored}
+use Rattle.code.specs.Sums.{sum-zeros}
+use Rattle.code.specs.Place.{tileOf, tile-length, tile-in, tile-cells, from-length, from-at, textByte, text-length, text-at, text-is}
+use Rattle.code.specs.Xored.{xored-length, xored-letter, xored-cell, xored-is, xored-good, xored-text}
+use Rattle.code.specs.Writing.{written-once}
+use Rattle.code.specs.declared.Line.{Line}
+use Rattle.tile.specs.Answer as answer
+use Rattle.tile.specs.Calls.{ReadTold, RepairTold, FillTold}
+use Rattle.tile.specs.Admit.{admits, admitted-well, admitted-no}
+use Rattle.tile.specs.Once.{read-told-once, repair-told-once, fill-told-once}
+use Rattle.tile.specs.Carry.{repair-carried, fill-carried, repaired-good}
+use Rattle.sheet.specs.Sheet.{records, isOf, given, differences, Whole, SoundBelow}
+use Rattle.sheet.specs.Answer.{Said, corrected, refused}
+use Rattle.sheet.specs.Calls.{sound, Corrects, CorrectTold}
+use Rattle.sheet.specs.Make.{given-none, given-off}
+use Rattle.sheet.specs.Once.{judged-told-once}
+use Rattle.sheet.specs.Last.{NoneFrom, Follows, Last, last-made}
+
+-- ---- what is taken, and what is refused
+
+-- every tile of the right length, good or damaged or garbage, is corrected by every sound sheet, and the answer is the number of its records
+pub correct-takes : (p l : ℕ) (tile sheet : List ℕ) (said : Said) (new : List ℕ) → Size p → Allowed p l → length tile ≡ tileLength p
+    → Whole sheet → SoundBelow p sheet (records sheet) → CorrectTold p l tile sheet said new → said ≡ corrected (records sheet)
+correct-takes p l tile sheet said new s w e whole below told = go told
+  where
+    go : {said : Said} {new : List ℕ} → CorrectTold p l tile sheet said new → said ≡ corrected (records sheet)
+    go (CorrectTold.refuses h) = absurd (admitted-no h (s, w, e))
+    go (CorrectTold.faulty {n} {at} h j) = judged-told-once p sheet (refused n at) (corrected (records sheet)) j (sound whole below)
+    go (CorrectTold.corrects {n} h j c) = judged-told-once p sheet (corrected n) (corrected (records sheet)) j (sound whole below)
+
+-- the number of records is tied to the sheet's length
+pub count-tied : {p l n : ℕ} {tile sheet new : List ℕ} → CorrectTold p l tile sheet (corrected n) new → 8 * n ≡ length sheet
+count-tied (CorrectTold.corrects h (sound w below) c) = omega arith
+
+-- a refused correction leaves the tile
+pub correct-refused : {p l n at : ℕ} {tile sheet new : List ℕ} → CorrectTold p l tile sheet (refused n at) new → new ≡ tile
+correct-refused (CorrectTold.refuses h) = refl
+correct-refused (CorrectTold.faulty h j) = refl
+
+-- ---- what is changed
+
+-- what a correction makes
+pub changed : {p l n : ℕ} {tile sheet new : List ℕ} → CorrectTold p l tile sheet (corrected n) new → Corrects p l sheet tile new
+changed (CorrectTold.corrects h j c) = c
+
+-- where a correction is made, the size is a size, the slope is allowed and the tile has its length
+taken : {p l n : ℕ} {tile sheet new : List ℕ} → CorrectTold p l tile sheet (corrected n) new → Size p × Allowed p l × (length tile ≡ tileLength p)
+taken (CorrectTold.corrects h j c) = admitted-well h
+
+module _ (p l n : ℕ) (tile sheet new : List ℕ) (told : CorrectTold p l tile sheet (corrected n) new) where
+  -- the good tile that is added
+  abbrev pub change : List ℕ
+  change = changed told .change
+
+  large : 3 < p
+  large = omega (arith, taken told .0 .low)
+
+  -- the differences, place by place
+  given-at : (i j : ℕ) → i < p - 1 → j < p - 3 → textByte p (differences p sheet) i j ≡ given sheet (records sheet) i j
+  unfolding differences
+  given-at i j hi hj = from-at p (given sheet (records sheet)) i j hi hj
+
+  differences-length : length (differences p sheet) ≡ textLength p
+  unfolding differences
+  differences-length = from-length p (given sheet (records sheet))
+
+  change-at : (i j : ℕ) → i < p - 1 → j < p - 3 → cell p change i j ≡ given sheet (records sheet) i j
+  change-at i j hi hj = sym (text-at p change i j hi hj) ∙ ap (λ (t : List ℕ). textByte p t i j) (changed told .written .has) ∙ given-at i j hi hj
+
+  -- THE CHANGE is good, has the differences as its text, and is zero outside the corrected places and the two check columns
+  pub change-is : Good p l change × (textOf p change ≡ differences p sheet)
+      × ((i j : ℕ) → i < p - 1 → j < p - 3 → NoneFrom sheet i j 0 (records sheet) → cell p change i j ≡ 0)
+  change-is = (
+    changed told .written .good,
+    changed told .written .has,
+    λ i j hi hj none. change-at i j hi hj ∙ given-off sheet (records sheet) i j (λ k h. none k (omega arith) h),
+  )
+
+  -- so the tile is touched there alone
+  pub untouched : (i j : ℕ) → i < p - 1 → j < p - 3 → NoneFrom sheet i j 0 (records sheet) → cell p new i j ≡ cell p tile i j
+  untouched i j hi hj none =
+      ap (λ (t : List ℕ). cell p t i j) (changed told .becomes) ∙ xored-cell p tile change (taken told .2) i j hi (omega arith)
+      ∙ ap (λ (x : ℕ). cell p tile i j ⊕ x) (change-is .2 i j hi hj none) ∙ zero-r _
+
+  -- where all differences cancel out, it is not touched at all: the good tile of zeros is the one that is added
+  pub cancelled : ((i j : ℕ) → i < p - 1 → j < p - 3 → given sheet (records sheet) i j ≡ 0) → new ≡ tile
+  cancelled none =
+      let e = taken told .2 in
+      changed told .becomes
+      ∙ ap (xored tile) (written-once p l (differences p sheet) change zeros (allowed-slope p l (taken told .0) (taken told .1)) (changed told .written) zeros-written)
+      ∙ sym (xored-is p tile zeros e tile (omega (arith, large)) e (λ i j hi hj. sym (ap (λ (x : ℕ). cell p tile i j ⊕ x) (tile-in p (λ i j. 0) i j hi hj) ∙ zero-r _)))
+    where
+      zeros : List ℕ
+      zeros = tileOf p (λ i j. 0)
+
+      blank : (i j : ℕ) → i < p → j < p → cell p zeros i j ≡ 0
+      blank = tile-cells p (λ i j. 0) (record { row = λ j h. refl; column = λ i h. refl })
+
+      zeros-written : Writes p l (differences p sheet) zeros
+      zeros-written = record {
+        size = tile-length p (λ i j. 0);
+        good = record { common = 0; first = λ t h. sum-zeros p 1 t (cell p zeros) blank; second = λ t h. sum-zeros p l t (cell p zeros) blank };
+        has = text-is p zeros (differences p sheet) large differences-length (λ i j hi hj. given-at i j hi hj ∙ none i j hi hj ∙ sym (tile-in p (λ i j. 0) i j hi (omega arith)));
+      }
+
+  -- ---- repair after a sheet
+
+  -- where a good tile is added to one that repair makes good, it is the one written afresh from the text corrected by the differences
+  afresh : (fixed : List ℕ) → length fixed ≡ tileLength p → Good p l fixed → Writes p l (xored (textOf p fixed) (differences p sheet)) (xored fixed change)
+  afresh fixed e g = record {
+    size = xored-length fixed change ∙ e;
+    good = xored-good p fixed change e l g (changed told .written .good);
+    has = xored-text p fixed change e large ∙ ap (xored (textOf p fixed)) (changed told .written .has);
+  }
+
+  -- REPAIR gives the same answer after the sheet as before; its tile is the earlier one with the change added, and where it succeeds that is
+  -- the one written afresh from its text corrected by the differences
+  pub repair-after : (said said′ : answer.Said) (fixed fixed′ : List ℕ) → RepairTold p l tile said fixed → RepairTold p l new said′ fixed′
+      → (said′ ≡ said) × (fixed′ ≡ xored fixed change)
+      × (((m : ℕ) → said ≡ answer.refused m → ⊥) → Writes p l (xored (textOf p fixed) (differences p sheet)) fixed′)
+  repair-after said said′ fixed fixed′ before after =
+      let same = repair-told-once p l new said′ said fixed′ (xored fixed change) after
+      (rw (← changed told .becomes) at (repair-carried p l change (changed told .written .good) before)) in
+      (same .0, same .1, λ d. let g = repaired-good d before in rw (← same .1) at (afresh fixed (g .0) (g .1)))
+
+  -- FILLING the same lines gives the same answer, and the tiles differ by the change
+  pub fill-after : (a b : Line) (said said′ : answer.Said) (filled filled′ : List ℕ) → FillTold p l tile a b said filled → FillTold p l new a b said′ filled′
+      → (said′ ≡ said) × (filled′ ≡ xored filled change)
+  fill-after a b said said′ filled filled′ before after =
+      fill-told-once p l new a b said′ said filled′ (xored filled change) after
+      (rw (← changed told .becomes) at (fill-carried p l change (changed told .written .good) before))
+
+  -- THE TEXT READ after sheet and repair holds, at a place whose records follow each other, the last "is"
+  pub last-is : (said said′ read : answer.Said) (fixed fixed′ page text : List ℕ) (i j k : ℕ) → RepairTold p l tile said fixed
+      → ((m : ℕ) → said ≡ answer.refused m → ⊥) → RepairTold p l new said′ fixed′ → length page ≡ textLength p → ReadTold p l fixed′ page read text
+      → i < p - 1 → j < p - 3 → Follows sheet i j (textByte p (textOf p fixed) i j) → Last sheet i j k
+      → (read ≡ answer.done) × (textByte p text i j ≡ isOf sheet k)
+  last-is said said′ read fixed fixed′ page text i j k before well after e-page reading hi hj follows last =
+      let w = repair-after said said′ fixed fixed′ before after .2 well in
+      let t = taken told in
+      let r = read-told-once p l fixed′ page read answer.done text (textOf p fixed′) reading (ReadTold.reads (admits (t .0) (t .1) (w .size, e-page)) (w .good)) in (
+        r .0,
+        ap (λ (u : List ℕ). textByte p u i j) (r .1 ∙ w .has) ∙ xored-letter p (textOf p fixed) (differences p sheet) i j (text-length p fixed) hi hj
+            ∙ ap (λ (x : ℕ). textByte p (textOf p fixed) i j ⊕ x) (given-at i j hi hj) ∙ last-made sheet i j (textByte p (textOf p fixed) i j) follows k last,
+      )
+
+-- an empty sheet answers 0 and changes nothing
+pub correct-empty : (p l : ℕ) (tile : List ℕ) (said : Said) (new : List ℕ) → Size p → Allowed p l → length tile ≡ tileLength p
+    → CorrectTold p l tile [] said new → (said ≡ corrected 0) × (new ≡ tile)
+correct-empty p l tile said new s w e told =
+    let said-is = correct-takes p l tile [] said new s w e refl (λ k h. omega arith) told in
+    (said-is, cancelled p l 0 tile [] new (rw said-is at told) (λ i j hi hj. given-none [] i j))

@@ -1,0 +1,63 @@
+-- WHAT A READER MUST BELIEVE: what a correction sheet says, in the words of document 01. Records count from 0. Assumes nothing.
+use mathlib.Core.Path.{_≡_}
+use mathlib.Core.List.{List}
+use Prim.Native.Nat.{ℕ, _+_, _*_, _/_, _%_, _≤_, _<_}
+use lib.Dec.{eqb}
+use lib.ListN.{length, getD}
+use Rattle.xor.specs.Xor.{_⊕_}
+use Rattle.xor.specs.Sum.{xorBelow, keep}
+use Rattle.code.specs.Tile.{Cells, textFrom}
+use Rattle.record.specs.Number.{bigEndian}
+
+-- ---- the records
+
+-- "A sheet is a run of 8-byte records": how many there are, and the n-th byte of the k-th
+abbrev pub records : List ℕ → ℕ
+records sheet = length sheet / 8
+
+abbrev pub byteOf : List ℕ → ℕ → ℕ → ℕ
+byteOf sheet k n = getD sheet (8 * k + n) 0
+
+-- "mark C3 3C, row (2 bytes), column (2 bytes), the byte that was, the byte that is to be"
+abbrev pub Marked : List ℕ → ℕ → Type 0
+Marked sheet k = (byteOf sheet k 0 ≡ 0xC3) × (byteOf sheet k 1 ≡ 0x3C)
+
+abbrev pub rowOf : List ℕ → ℕ → ℕ
+rowOf sheet k = bigEndian (byteOf sheet k 2) (byteOf sheet k 3)
+
+abbrev pub columnOf : List ℕ → ℕ → ℕ
+columnOf sheet k = bigEndian (byteOf sheet k 4) (byteOf sheet k 5)
+
+abbrev pub wasOf : List ℕ → ℕ → ℕ
+wasOf sheet k = byteOf sheet k 6
+
+abbrev pub isOf : List ℕ → ℕ → ℕ
+isOf sheet k = byteOf sheet k 7
+
+-- "A record's difference is was XOR is."
+abbrev pub differenceOf : List ℕ → ℕ → ℕ
+differenceOf sheet k = wasOf sheet k ⊕ isOf sheet k
+
+-- ---- the differences
+
+-- the XOR of the differences that the first n records give for row i and column j
+unfoldable pub given : List ℕ → ℕ → Cells
+given sheet n i j = xorBelow n (λ k. keep (eqb i (rowOf sheet k)) (keep (eqb j (columnOf sheet k)) (differenceOf sheet k)))
+
+-- "The sheet's differences form a text: each place holds the XOR of the differences given for it, zero elsewhere."
+unfoldable pub differences : ℕ → List ℕ → List ℕ
+differences p sheet = textFrom p (given sheet (records sheet))
+
+-- ---- a sound sheet
+
+-- "a sheet's length is no multiple of 8": otherwise it is whole
+abbrev pub Whole : List ℕ → Type 0
+Whole sheet = length sheet % 8 ≡ 0
+
+-- "a correction's row is above p-2 or its column above p-4": otherwise it has its place in the text
+abbrev pub Placed : ℕ → List ℕ → ℕ → Type 0
+Placed p sheet k = (rowOf sheet k + 2 ≤ p) × (columnOf sheet k + 4 ≤ p)
+
+-- none of the first n records is faulty
+abbrev pub SoundBelow : ℕ → List ℕ → ℕ → Type 0
+SoundBelow p sheet n = (k : ℕ) → k < n → Marked sheet k × Placed p sheet k

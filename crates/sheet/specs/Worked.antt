@@ -1,0 +1,114 @@
+-- The starred worked tiles 1 to 11 of document 01, as one list with a single claim: 1 to 10 as the crate `tile` has them, and 11, which has
+-- a sheet. The tiles are at p 5, l 2, written row by row; what is claimed of 11 is decided by a test that is computed, and by the laws that
+-- the test is right. Assumes nothing.
+use mathlib.Core.List.{List, [], _∷_}
+use Prim.Native.Nat.{ℕ, _+_, _-_, _%_}
+use lib.ListN.{length, getD}
+use Rattle.xor.specs.Xor.{_⊕_}
+use Rattle.xor.specs.Sum.{xorBelow}
+use Rattle.code.specs.Tabulate.{tabulate}
+use Rattle.code.specs.Tile.{tileLength, place, cell, sum, textFrom, textOf, Writes, xored}
+use Rattle.code.specs.Test.{upTo}
+use Rattle.size.specs.Shams.{size-5, at-5-2}
+use Rattle.tile.specs.Answer as answer
+use Rattle.tile.specs.Calls.{RepairTold}
+use Rattle.tile.specs.Admit.{admits}
+use Rattle.tile.specs.Decide.{Test, so, both, below, equal, at-most, same, good, not-good, outside, filling, none-of, none, no-line, uncrossed, no-filling, Each, each, numbered}
+use Rattle.tile.specs.Worked as worked
+use Rattle.tile.specs.Worked.{Exactly, exactly, zeros, text-1, tile-1, tile-4, writing, tested, mends, filled, admitted-tile}
+use Rattle.sheet.specs.Sheet.{records, byteOf, Marked, rowOf, columnOf, given, differences, Placed, SoundBelow}
+use Rattle.sheet.specs.Answer.{corrected}
+use Rattle.sheet.specs.Calls.{sound, CorrectTold}
+use Rattle.sheet.specs.Once.{correct-told-once}
+
+-- ---- the tiles and the sheets
+
+-- 11. The tile of 4, sheet of one record, row 0, column 0, was 0, is 1: tile 1 with (2,3) changed by 1; repair still says column 3
+abbrev pub sheet-11 : List ℕ
+sheet-11 = 0xC3 ∷ 0x3C ∷ 0 ∷ 0 ∷ 0 ∷ 0 ∷ 0 ∷ 1 ∷ []
+
+abbrev pub tile-11 : List ℕ
+tile-11 = 1 ∷ 0 ∷ 0 ∷ 1 ∷ 0 ∷ 0 ∷ 1 ∷ 1 ∷ 0 ∷ 0 ∷ 1 ∷ 1 ∷ 0 ∷ 0 ∷ 1 ∷ 0 ∷ []
+
+-- and a second record, row 1, column 0, was 0, is 1: text 1 0 / 1 0 / 0 0 / 0 0 writes 1 0 1 1 / 1 0 0 0 / 0 0 1 1 / 0 0 1 0
+abbrev pub sheet-two : List ℕ
+sheet-two = 0xC3 ∷ 0x3C ∷ 0 ∷ 0 ∷ 0 ∷ 0 ∷ 0 ∷ 1 ∷ 0xC3 ∷ 0x3C ∷ 0 ∷ 1 ∷ 0 ∷ 0 ∷ 0 ∷ 1 ∷ []
+
+abbrev pub tile-two : List ℕ
+tile-two = 1 ∷ 0 ∷ 1 ∷ 1 ∷ 1 ∷ 0 ∷ 0 ∷ 0 ∷ 0 ∷ 0 ∷ 1 ∷ 1 ∷ 0 ∷ 0 ∷ 1 ∷ 0 ∷ []
+
+-- zeros but 2 at (0,0), the very place that is corrected; and the same with 2 XOR 1 there, once it is
+abbrev pub hurt-cell : List ℕ
+hurt-cell = 2 ∷ 0 ∷ 0 ∷ 0 ∷ 0 ∷ 0 ∷ 0 ∷ 0 ∷ 0 ∷ 0 ∷ 0 ∷ 0 ∷ 0 ∷ 0 ∷ 0 ∷ 0 ∷ []
+
+abbrev pub corrected-cell : List ℕ
+corrected-cell = 3 ∷ 0 ∷ 0 ∷ 1 ∷ 0 ∷ 0 ∷ 1 ∷ 1 ∷ 0 ∷ 0 ∷ 1 ∷ 0 ∷ 0 ∷ 0 ∷ 1 ∷ 0 ∷ []
+
+-- ---- the cases
+
+-- a case: one of a tile alone; or a tile, a sheet, the good tile written from its differences, and the tile afterwards, with what repair
+-- then says and leaves
+pub data Case : Type 0 where
+  of-tile : worked.Case → Case
+  corrects : List ℕ → List ℕ → List ℕ → List ℕ → answer.Said → List ℕ → Case
+
+-- what a case claims
+abbrev pub Claim : Case → Type 0
+Claim (of-tile c) = worked.Claim c
+Claim (corrects tile sheet change new said fixed) =
+    Writes 5 2 (differences 5 sheet) change × Exactly (CorrectTold 5 2 tile sheet) (corrected (records sheet)) new × Exactly (RepairTold 5 2 new) said fixed
+
+-- cases of tiles alone, before others
+abbrev after : List worked.Case → List Case → List Case
+after [] ds = ds
+after (c ∷ cs) ds = of-tile c ∷ after cs ds
+
+-- tiles 1 to 11
+abbrev pub cases : List Case
+cases = after worked.cases (corrects tile-4 sheet-11 tile-1 tile-11 (answer.column 3) tile-1 ∷ [])
+
+-- and others: a good tile corrected by one record, and by two; and a tile that is hurt in the corrected place
+abbrev pub others : List Case
+others =
+    corrects zeros sheet-11 tile-1 tile-1 answer.clean tile-1
+    ∷ corrects zeros sheet-two tile-two tile-two answer.clean tile-two
+    ∷ corrects hurt-cell sheet-11 tile-1 corrected-cell (answer.column 0) tile-1
+    ∷ []
+
+-- ---- the tests
+
+-- no record is faulty
+unfoldable sound-sheet : (sheet : List ℕ) → Test (SoundBelow 5 sheet (records sheet))
+sound-sheet sheet = below (λ k. Marked sheet k × Placed 5 sheet k) (records sheet) (λ k.
+    both (both (equal (byteOf sheet k 0) 0xC3) (equal (byteOf sheet k 1) 0x3C)) (both (at-most (rowOf sheet k + 2) 5) (at-most (columnOf sheet k + 4) 5)))
+
+-- the test of a case
+unfoldable case-tested : (c : Case) → Test (Claim c)
+case-tested (of-tile c) = tested c
+case-tested (corrects tile sheet change new said fixed) =
+    so (both (equal (length tile) (tileLength 5)) (both (both (equal (length sheet % 8) 0) (sound-sheet sheet))
+    (both (writing (differences 5 sheet) change) (both (same new (xored tile change)) (tested (worked.repairs new said fixed)))))) (λ t.
+    let made = t .1 .1 in (
+      made .0,
+      exactly (CorrectTold 5 2 tile sheet) (correct-told-once 5 2 tile sheet) (corrected (records sheet)) new
+          (CorrectTold.corrects (admits size-5 at-5-2 (t .0)) (sound (t .1 .0 .0) (t .1 .0 .1)) (record { change = change; written = made .0; becomes = made .1 .0 })),
+      made .1 .1,
+    ))
+
+-- THE WORKED TILES: every claim of the list holds
+pub all-worked : Each Claim cases
+unfolding each case-tested sound-sheet tested mends filled admitted-tile writing same good not-good outside filling none-of none no-line uncrossed no-filling upTo sum cell place textFrom textOf xored differences given tabulate xorBelow _⊕_
+all-worked = each Claim case-tested cases .shows tt
+
+-- and every claim of the others
+pub others-worked : Each Claim others
+unfolding each case-tested sound-sheet tested mends filled admitted-tile writing same good not-good outside filling none-of none no-line uncrossed no-filling upTo sum cell place textFrom textOf xored differences given tabulate xorBelow _⊕_
+others-worked = each Claim case-tested others .shows tt
+
+-- the claim of a case by its number, as document 01 numbers the tiles
+pub claimed : (k : ℕ) → Claim (getD cases (k - 1) (of-tile (worked.writes text-1 tile-1 0)))
+claimed k = numbered Claim (of-tile (worked.writes text-1 tile-1 0)) (all-worked .0) cases all-worked (k - 1)
+
+-- and of the others, from 1 in the order in which they stand above
+pub other-claimed : (k : ℕ) → Claim (getD others (k - 1) (corrects zeros sheet-11 tile-1 tile-1 answer.clean tile-1))
+other-claimed k = numbered Claim (corrects zeros sheet-11 tile-1 tile-1 answer.clean tile-1) (others-worked .0) others others-worked (k - 1)

@@ -1,0 +1,144 @@
+// The correction sheet: records that each name a place in a tile's text, the byte that was there and the byte that is to be. The
+// tile need not be sound: what is made is the change that the sheet asks for, the same in every tile.
+use lines::checks;
+use lines::index::place;
+use lines::sums::add_byte;
+use size::Judgement;
+use size::Refusal;
+use tile::judge_tile;
+ghost use mathlib.Core.Path.{_≡_};
+ghost use Prim.Native.Nat.{_+_, _≤_, _<_};
+ghost use lib.ListN.{length};
+ghost use Rattle.code.specs.Slope.{Slope};
+ghost use Rattle.code.specs.Tile.{tileLength};
+ghost use Rattle.size.specs.Answer.{Says};
+ghost use Rattle.sheet.specs.Sheet.{records, Marked, rowOf, columnOf, wasOf, isOf, SoundBelow};
+ghost use Rattle.sheet.specs.Calls.{Judged, Corrects, CorrectTold};
+ghost use Rattle.sheet.specs.Answer.{correctedSaid};
+
+// What a sheet's call answers: the number of its records, or a refusal with the offset of the faulty record's first byte.
+pub enum Corrected {
+    Records(usize),
+    Refused(Refusal, usize),
+}
+
+// How many bytes a record has.
+const RECORD: usize = 8;
+
+// What a record says, and whether it has the mark.
+struct Correction {
+    marked: bool,
+    row: usize,
+    column: usize,
+    was: u8,
+    is: u8,
+}
+
+// The k-th record, taken apart. Here alone the code knows how a record is laid out.
+fn nth(sheet: &[u8], k: usize) -> Correction
+    requires { ⌜ k < records (now sheet) ⌝ }
+    ensures { λ r. ⌜ Says (r .marked) (Marked (now (sheet .entry)) k) ⌝ }
+    ensures { λ r. ⌜ (r .row ≡ rowOf (now (sheet .entry)) k) × (r .column ≡ columnOf (now (sheet .entry)) k) ⌝ }
+    ensures { λ r. ⌜ (r .was ≡ wasOf (now (sheet .entry)) k) × (r .is ≡ isOf (now (sheet .entry)) k) ⌝ }
+{
+    let at = RECORD * k;
+    Correction {
+        marked: has_mark(sheet[at], sheet[at + 1]),
+        row: record::number(sheet[at + 2], sheet[at + 3]),
+        column: record::number(sheet[at + 4], sheet[at + 5]),
+        was: sheet[at + 6],
+        is: sheet[at + 7],
+    }
+}
+
+// Are the first two bytes of a record its mark?
+fn has_mark(first: u8, second: u8) -> bool
+    ensures { λ r. ⌜ Says r ((first ≡ 0xC3) × (second ≡ 0x3C)) ⌝ }
+{
+    if first != 0xC3 {
+        return false;
+    }
+    if second != 0x3C {
+        return false;
+    }
+    true
+}
+
+// Does the text of a tile of size p have the place?
+fn has_place(p: usize, row: usize, column: usize) -> bool
+    ensures { λ r. ⌜ Says r ((row + 2 ≤ p) × (column + 4 ≤ p)) ⌝ }
+{
+    if p < 4 {
+        return false;
+    }
+    if p - 2 < row {
+        return false;
+    }
+    if p - 4 < column {
+        return false;
+    }
+    true
+}
+
+// Judges the whole sheet: refusal 7, then record by record 6 before 4.
+fn judge(p: usize, sheet: &[u8]) -> Corrected
+    ensures { λ r. ⌜ Judged p (now (sheet .entry)) (correctedSaid r) ⌝ }
+{
+    if sheet.len() % RECORD != 0 {
+        return Corrected::Refused(Refusal::CutShort, 0);
+    }
+    let count = sheet.len() / RECORD;
+    let mut k = 0;
+    while k < count {
+        let next = nth(sheet, k);
+        if !next.marked {
+            return Corrected::Refused(Refusal::BadMark, RECORD * k);
+        }
+        if !has_place(p, next.row, next.column) {
+            return Corrected::Refused(Refusal::BadPlace, RECORD * k);
+        }
+        k += 1;
+    }
+    Corrected::Records(count)
+}
+
+// Makes the corrections of a sheet that was judged sound. Each record's difference goes into its cell, and into the sum of its line
+// of either slope; the check columns then settle those sums. What a cell holds does not matter: it may be damaged.
+fn make(p: usize, l: usize, sheet: &[u8], tile: &mut [u8])
+    requires { ⌜ Slope p l ⌝ }
+    requires { ⌜ (p ≤ 257) × (length (now tile) ≡ tileLength p) ⌝ }
+    requires { ⌜ SoundBelow p (now sheet) (records (now sheet)) ⌝ }
+    ensures { λ _. ⌜ Corrects p l (now (sheet .entry)) (now (tile .entry)) (now (tile .exit)) ⌝ }
+{
+    let mut a = [0u8; 257];
+    let mut b = [0u8; 257];
+    let count = sheet.len() / RECORD;
+    let mut made = 0;
+    while made < count {
+        let next = nth(sheet, made);
+        let at = place(p, next.row, next.column);
+        let cell = tile[at];
+        let difference = next.was ^ next.is;
+        tile[at] = cell ^ difference;
+        add_byte(p, 1, next.row, next.column, difference, &mut a);
+        add_byte(p, l, next.row, next.column, difference, &mut b);
+        made += 1;
+    }
+    checks::settle(p, l, &a, &b, tile);
+}
+
+// Corrects a tile, sound or damaged, by a sheet. The whole sheet is judged before a byte is written.
+pub fn correct(p: usize, l: usize, tile: &mut [u8], sheet: &[u8]) -> Corrected
+    ensures { λ r. ⌜ CorrectTold p l (now (tile .entry)) (now (sheet .entry)) (correctedSaid r) (now (tile .exit)) ⌝ }
+{
+    match judge_tile(p, l, tile.len()) {
+        Judgement::Refused(refusal) => Corrected::Refused(refusal, 0),
+        Judgement::Taken => match judge(p, sheet) {
+            Corrected::Refused(refusal, at) => Corrected::Refused(refusal, at),
+            Corrected::Records(records) => {
+                make(p, l, sheet, tile);
+                Corrected::Records(records)
+            }
+        },
+    }
+}
