@@ -1,2 +1,3 @@
 -- What the records of a sheet and of a reel share.
 pub mod Number
+pub mod Shams

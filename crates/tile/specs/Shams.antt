@@ -1,16 +1,16 @@
--- Wrong programs, each broken by a theorem: no such program meets its contract. All but the last two are caught by a worked tile.
--- Assumes nothing.
+-- Wrong programs, each broken by a theorem: no such program meets its contract. Most are caught by a worked tile. Assumes nothing.
 use mathlib.Core.Path.{_≡_, refl}
 use mathlib.Core.List.{List, [], _∷_}
 use Prim.Native.Nat.{ℕ}
 use native.Mathlib.Omega.{arith}
 use lib.ListN.{length}
-use Rattle.code.specs.Tile.{textLength}
+use Rattle.code.specs.Tile.{tileLength, textLength}
 use Rattle.code.specs.declared.Line.the-variants.{Row, Column}
 use Rattle.size.specs.Answer as size
-use Rattle.size.specs.Shams.{size-5}
+use Rattle.size.specs.Shams.{size-5, at-5-2}
 use Rattle.tile.specs.Answer.{Said, done, clean, column, row, refused}
-use Rattle.tile.specs.Calls.{judged, WriteTold, ReadTold, RepairTold, FillTold}
+use Rattle.tile.specs.Calls.{Admitted, judged, WriteTold, ReadTold, RepairTold, FillTold}
+use Rattle.tile.specs.Admit.{admitted-well, admitted-no}
 use Rattle.tile.specs.Once.{repair-told-once}
 use Rattle.tile.specs.Promise.{read-after-write, write-refused}
 use Rattle.tile.specs.Worked.{Exactly, claimed, other-claimed, zeros, text-1, tile-1, text-2, tile-2, tile-4, tile-9, tile-10, copied-1, hurt-2}
@@ -105,3 +105,13 @@ pub length-first : (tile new : List ℕ) → RepairTold 5 0 tile (refused 3) new
 length-first tile new r =
     let e = repair-told-once 5 0 tile (refused 3) (refused 2) new tile r (slope-0 tile) .0 in
     let z : _≡_ {A = ℕ} 3 2 = cc in omega arith
+
+-- ---- the judgement of size, slope and length
+
+-- one that takes tiles with a column too few
+pub takes-12 : Admitted 5 2 (12 ≡ tileLength 5) size.well → ⊥
+takes-12 a = let e = admitted-well a .2 in omega arith
+
+-- one that refuses tiles of the right length
+pub refuses-16 : (n : ℕ) → Admitted 5 2 (16 ≡ tileLength 5) (size.refused n) → ⊥
+refuses-16 n a = admitted-no a (size-5, at-5-2, refl)

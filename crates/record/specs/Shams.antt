@@ -1,0 +1,13 @@
+-- Wrong programs, each broken by a theorem: no such program meets its contract. Assumes nothing.
+use mathlib.Core.Path.{_≡_}
+use Prim.Native.Nat.{ℕ}
+use native.Mathlib.Omega.{arith}
+use Rattle.record.specs.Number.{bigEndian}
+
+-- a number that is read with its low byte first: 01 00 as 1
+pub low-first : bigEndian 1 0 ≡ 1 → ⊥
+low-first e = omega arith
+
+-- a number of which the high byte counts too little: 01 00 as 255
+pub counts-255 : bigEndian 1 0 ≡ 255 → ⊥
+counts-255 e = omega arith
