@@ -107,12 +107,12 @@ unfolding given
 given-off sheet n i j d = zeros n _ (λ k h. lonely-off sheet k i j (d k h))
 
 module _ (p : ℕ) (sheet : List ℕ) (sound : SoundBelow p sheet (records sheet)) where
-  -- what a sound sheet gives
-  abbrev G : Cells
-  G = given sheet (records sheet)
+  -- what a sound sheet gives for each place ..
+  abbrev differing : Cells
+  differing = given sheet (records sheet)
 
-  -- .. is nothing in the added row and column
-  given-padded : Padded p G
+  -- (nothing in the added row and column) ..
+  given-padded : Padded p differing
   given-padded = record {
     row = λ j h. given-off sheet (records sheet) (p - 1) j (λ k q e. let s = sound k q .1 in omega (arith, e .0, s .0));
     column = λ i h. given-off sheet (records sheet) i (p - 1) (λ k q e. let s = sound k q .1 in omega (arith, e .1, s .1));
@@ -120,38 +120,37 @@ module _ (p : ℕ) (sheet : List ℕ) (sound : SoundBelow p sheet (records sheet
 
   module _ (l : ℕ) (x y z a b : List ℕ) (S : Slope p l) (e : length x ≡ tileLength p) (made : Made p l sheet x (records sheet) y a b)
       (settled : ChecksSettled p l (held a) (held b) y z) where
-    -- .. with what settles its sums
-    abbrev D : Cells
-    D = settled .by
+    -- .. with what the check columns add, is a tile ..
+    abbrev checking : Cells
+    checking = settled .by
 
-    abbrev W : List ℕ
-    W = tileOf p (plus G D)
+    abbrev made-change : List ℕ
+    made-change = tileOf p (plus differing checking)
 
-    W-cells : Same p (cell p W) (plus G D)
-    W-cells = tile-cells p (plus G D) (padded-plus p G D given-padded (settled .padded))
+    -- (with these cells ..
+    change-cells : Same p (cell p made-change) (plus differing checking)
+    change-cells = tile-cells p (plus differing checking) (padded-plus p differing checking given-padded (settled .padded))
 
-    large : 3 < p
-    large = omega (arith, S .low, S .high)
-
-    W-written : Writes p l (differences p sheet) W
+    -- .. good, and with the differences as its text)
+    change-written : Writes p l (differences p sheet) made-change
     unfolding differences
-    W-written = record {
-      size = tile-length p (plus G D);
-      good = one-sum-ext p l (plus G D) (cell p W) (λ i j hi hj. sym (W-cells i j hi hj))
-          (settles-good p l G D (settles-sums p l (held a) (held b) (sum p 1 G) (sum p l G) D (made .first) (made .second) (settled .settles)));
-      has = text-is p W (textFrom p G) large (from-length p G) (λ i j hi hj.
-          from-at p G i j hi hj
-          ∙ sym (W-cells i j (omega arith) (omega arith) ∙ ap (λ (w : ℕ). G i j ⊕ w) (settled .off i j (omega arith) (omega arith) (omega arith) (omega arith)) ∙ zero-r _));
+    change-written = record {
+      size = tile-length p (plus differing checking);
+      good = one-sum-ext p l (plus differing checking) (cell p made-change) (λ i j hi hj. sym (change-cells i j hi hj))
+          (settles-good p l differing checking (settles-sums p l (held a) (held b) (sum p 1 differing) (sum p l differing) checking (made .first) (made .second) (settled .settles)));
+      has = text-is p made-change (textFrom p differing) (omega (arith, S .low, S .high)) (from-length p differing) (λ i j hi hj.
+          from-at p differing i j hi hj
+          ∙ sym (change-cells i j (omega arith) (omega arith) ∙ ap (λ (w : ℕ). differing i j ⊕ w) (settled .off i j (omega arith) (omega arith) (omega arith) (omega arith)) ∙ zero-r _));
     }
 
-    -- is the change that is asked for
+    -- .. that is the change that is asked for
     pub made-corrects : Corrects p l sheet x z
     made-corrects = record {
-      change = W;
-      written = W-written;
-      becomes = xored-is p x W e z (omega (arith, large)) (settled .size ∙ made .size ∙ e) (λ i j hi hj.
-          settled .added i j hi hj ∙ ap (λ (w : ℕ). w ⊕ D i j) (made .cells i j hi hj) ∙ assoc _ _ _
-          ∙ ap (λ (w : ℕ). cell p x i j ⊕ w) (sym (W-cells i j (omega arith) (omega arith))));
+      change = made-change;
+      written = change-written;
+      becomes = xored-is p x made-change e z (omega (arith, S .low, S .high)) (settled .size ∙ made .size ∙ e) (λ i j hi hj.
+          settled .added i j hi hj ∙ ap (λ (w : ℕ). w ⊕ checking i j) (made .cells i j hi hj) ∙ assoc _ _ _
+          ∙ ap (λ (w : ℕ). cell p x i j ⊕ w) (sym (change-cells i j (omega arith) (omega arith))));
     }
 
 -- the sums that the records leave have one total

@@ -69,7 +69,7 @@ house-said-once (Slope l) (Refused s) e = cc
 house-said-once (Refused r) (Slope m) e = cc
 house-said-once (Refused r) (Refused s) e = let n : numberOf r ≡ numberOf s = cc in ap Refused (number-once r s n)
 
-judgement-said-once : (a b : Judgement) → judgementSaid a ≡ judgementSaid b → a ≡ b
+pub judgement-said-once : (a b : Judgement) → judgementSaid a ≡ judgementSaid b → a ≡ b
 judgement-said-once judgement.Taken judgement.Taken e = refl
 judgement-said-once judgement.Taken (judgement.Refused s) e = cc
 judgement-said-once (judgement.Refused r) judgement.Taken e = cc

@@ -7,14 +7,16 @@ use native.Mathlib.Nat.{le-antisymm}
 use native.Mathlib.Omega.{by-contra}
 use Rattle.code.specs.Size.{Size, Allowed}
 use Rattle.code.specs.Slope.{Slope, allowed-slope}
-use Rattle.code.specs.Tile.{Good, textOf, Writes, Fills}
+use Rattle.code.specs.Tile.{tileLength, Good, textOf, Writes, Fills}
 use Rattle.code.specs.Filling.{filled-once}
 use Rattle.code.specs.Writing.{written-once}
 use Rattle.code.specs.declared.Line.{Line}
 use Rattle.code.specs.declared.Line.the-variants.{Row, Column}
 use Rattle.size.specs.Answer as size
+use Rattle.size.specs.Answer.{judgementSaid}
 use Rattle.size.specs.Refusal.{numberOf}
-use Rattle.size.specs.Once.{number-once}
+use Rattle.size.specs.Once.{number-once, judgement-said-once}
+use Rattle.size.specs.declared.Judgement.{Judgement}
 use Rattle.tile.specs.Answer.{Said, done, clean, column, row, refused, outcomeSaid, repairSaid}
 use Rattle.tile.specs.Calls.{Admitted, TileLength, BothLengths, WriteTold, ReadTold, Explains, Unexplained, RepairTold, Has, FillTold}
 use Rattle.tile.specs.Admit.{admitted-well, admitted-no, admitted-once}
@@ -210,6 +212,10 @@ repair-said-once (repair.Refused r) (repair.Refused s) e = let n : numberOf r �
 outcome-single : (R : Said → List ℕ → Type 0) → Single R → (a b : Outcome) (x y : List ℕ) → R (outcomeSaid a) x → R (outcomeSaid b) y
     → (a ≡ b) × (x ≡ y)
 outcome-single R f a b x y t u = let e = f (outcomeSaid a) (outcomeSaid b) x y t u in (outcome-said-once a b (e .0), e .1)
+
+-- a judgement of a size, a slope and a length has one right answer
+pub judge-tile-once : (p l cells : ℕ) (a b : Judgement) → Admitted p l (cells ≡ tileLength p) (judgementSaid a) → Admitted p l (cells ≡ tileLength p) (judgementSaid b) → a ≡ b
+judge-tile-once p l cells a b t u = judgement-said-once a b (admitted-once p l (cells ≡ tileLength p) (judgementSaid a) (judgementSaid b) t u)
 
 -- a write has one right answer, and leaves one tile
 pub write-once : (p l : ℕ) (text tile : List ℕ) (a b : Outcome) (x y : List ℕ)
