@@ -42,20 +42,20 @@ slice-write-tile c =
 
 add-byte-requires : tie.Need-add-byte-requires Inv-loop μ-loop
 add-byte-requires c κs =
-    let nth = c .before .before .before .before in
-    let loop = nth .before .before .loop in
-    let start = nth .before .before .before .before .before in
+    let read = c .before .before .before .before in
+    let loop = read .before .before .loop in
+    let start = read .before .before .before .before .before in
     let placed = start .pre .1 .1 (loop .made) (omega arith) .1 in
-    let e = nth .nth .ensures .1 .0 in
+    let e = read .nth .ensures .1 .0 in
     (omega arith, omega arith, omega arith, omega arith, loop .inv .1 .first-size)
 
 add-byte-requires-2 : tie.Need-add-byte-requires-2 Inv-loop μ-loop
 add-byte-requires-2 c κs =
-    let nth = c .before .before .before .before .before .before in
-    let loop = nth .before .before .loop in
-    let start = nth .before .before .before .before .before in
+    let read = c .before .before .before .before .before .before in
+    let loop = read .before .before .loop in
+    let start = read .before .before .before .before .before in
     let placed = start .pre .1 .1 (loop .made) (omega arith) .1 in
-    let e = nth .nth .ensures .1 .0 in
+    let e = read .nth .ensures .1 .0 in
     (omega arith, omega arith, omega (arith, start .pre .0 .high), omega arith, loop .inv .1 .second-size)
 
 add-made : tie.Need-add-made Inv-loop μ-loop
