@@ -6,7 +6,7 @@ import sys
 
 sys.dont_write_bytecode = True  # leave no files beside the sources
 
-from expected import edges, garbage, hurt, lost, paper, sizes, tiles  # noqa: E402
+from expected import corrections, edges, garbage, hurt, lost, paper, sizes, tiles  # noqa: E402
 
-for part in (sizes, tiles, paper, lost, hurt, edges, garbage):
+for part in (sizes, tiles, paper, lost, hurt, edges, garbage, *corrections.PARTS):
     part.print_cases()

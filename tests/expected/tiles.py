@@ -1,5 +1,6 @@
-"""The worked tiles 1 to 10, at p 5 and l 2. What document 01 says of each is held against what the equations give."""
+"""The worked tiles 1 to 11, at p 5 and l 2. What document 01 says of each is held against what the equations give."""
 
+from expected.sheet import correct, record
 from expected.tile import fill, parsed, read, repair, shown, sums, write
 
 P, L = 5, 2
@@ -62,6 +63,18 @@ def print_filled(n, lost):
     print(f"tile {n} fill {answer}: {shown(after, P - 1)}")
 
 
+def print_corrected(n):
+    """The tile of 4 is corrected and then repaired. Tile 1 comes out, but for 1 added at (2, 3) before the repair."""
+    tile_1 = parsed(WRITTEN[1][1])
+    hurt = ones([(2, 3)])
+    answer, corrected = correct(P, L, hurt, record(0, 0, 0, 1))
+    assert answer == "records 1" and corrected == [a ^ b for a, b in zip(tile_1, hurt)]
+    print(f"tile {n} correct {answer}: {shown(corrected, P - 1)}")
+    answer, repaired = repair(P, L, corrected)
+    assert answer == "column 3" and repaired == tile_1
+    print(f"tile {n} repair {answer}: {shown(repaired, P - 1)}")
+
+
 def print_cases():
     """All lines of this part."""
     for n in WRITTEN:
@@ -71,3 +84,4 @@ def print_cases():
     for n in FILLED:
         for lost in (0, 200):
             print_filled(n, lost)
+    print_corrected(11)

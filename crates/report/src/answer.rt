@@ -1,5 +1,6 @@
 // What the calls answer, and the lines of a tile, in the words that document 01 lists a reel with.
 use crate::print;
+use sheet::Corrected;
 use size::Refusal;
 use tile::Line;
 use tile::Outcome;
@@ -35,6 +36,16 @@ pub fn line(line: Line) {
         Line::Column(c) => {
             print::words(b" column");
             print::number(c);
+        }
+    }
+}
+
+pub fn corrected(corrected: Corrected) {
+    match corrected {
+        Corrected::Records(n) => print::count(b" records", n),
+        Corrected::Refused(no, at) => {
+            refusal(no);
+            print::count(b" at", at);
         }
     }
 }

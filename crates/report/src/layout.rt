@@ -1,5 +1,5 @@
-// How long tiles and texts are, how many lines a tile has, and which cells lie on a line. None asks that p is a size, since
-// refused calls are run too.
+// How long and how wide tiles and texts are, which lines a tile has, and which cells lie on a line. None asks that p is a size,
+// since refused calls are run too.
 use tile::Line;
 ghost use Prim.Native.Nat.{_≤_, _<_};
 
@@ -27,6 +27,20 @@ pub fn text_length(p: usize) -> usize
         return 0;
     }
     (p - 1) * (p - 3)
+}
+
+// How many rows a tile of size p has. Never 0, so that it divides.
+pub fn row_count(p: usize) -> usize
+    ensures { λ r. ⌜ 0 < r ⌝ }
+{
+    if p < 2 { 1 } else { p - 1 }
+}
+
+// How many columns of text it has. Never 0, so that it divides.
+pub fn text_width(p: usize) -> usize
+    ensures { λ r. ⌜ 0 < r ⌝ }
+{
+    if p < 4 { 1 } else { p - 3 }
 }
 
 // How many lines a tile of size p has, rows and columns. Never 0, so that it divides.
@@ -65,6 +79,12 @@ pub fn line(p: usize, k: usize) -> Line {
     } else {
         Line::Column(k - (p - 1))
     }
+}
+
+// The line that a pseudo-random number stands for.
+pub fn line_of(p: usize, s: usize) -> Line {
+    let lines = line_count(p);
+    line(p, s / 65536 % lines)
 }
 
 // Is cell k of a tile of size p, counted row by row, on the line?

@@ -2,6 +2,7 @@
 pub mod answer;
 pub mod bytes;
 pub mod layout;
+pub mod lent;
 pub mod picture;
 pub mod print;
 pub mod tally;

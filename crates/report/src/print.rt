@@ -12,6 +12,11 @@ pub fn number(n: usize) {
     io::print_decimal(STDOUT_FILENO, n as u64);
 }
 
+// The same of a byte.
+pub fn byte(byte: u8) {
+    number(byte as usize);
+}
+
 pub fn end_line() {
     words(b"\n");
 }
@@ -20,7 +25,7 @@ pub fn end_line() {
 pub fn first(n: usize, list: &[u8]) {
     for k in 0..n {
         if k < list.len() {
-            number(wide(list[k]));
+            byte(list[k]);
         }
     }
 }
@@ -29,7 +34,7 @@ pub fn first(n: usize, list: &[u8]) {
 pub fn rows(width: usize, cells: &[u8]) {
     for k in 0..cells.len() {
         stroke_before(width, k);
-        number(wide(cells[k]));
+        byte(cells[k]);
     }
 }
 
@@ -44,10 +49,6 @@ fn stroke_before(width: usize, k: usize) {
     if k % width == 0 {
         words(b" /");
     }
-}
-
-fn wide(byte: u8) -> usize {
-    byte as usize
 }
 
 // A number with its name.

@@ -2,6 +2,7 @@
 use crate::bytes;
 use crate::layout;
 use crate::print;
+use tile::Line;
 
 // Writes a tile from the pseudo-random text after `seed`, with room for the text and for the tile, and gives the last number. Where
 // the call refuses, or the room is too small, the tile stays as it came.
@@ -23,6 +24,17 @@ pub fn write(p: usize, l: usize, seed: usize, text: &mut [u8], tile: &mut [u8]) 
 pub fn change_cell(k: usize, tile: &mut [u8]) {
     if k < tile.len() {
         tile[k] = tile[k] ^ 65;
+    }
+}
+
+// Changes every byte of a line, by the pseudo-random numbers after `seed`.
+pub fn change_line(p: usize, line: Line, seed: usize, tile: &mut [u8]) {
+    let mut s = seed;
+    for k in 0..tile.len() {
+        if layout::is_on(p, line, k) {
+            s = bytes::next(s);
+            tile[k] = tile[k] ^ bytes::change_of(s);
+        }
     }
 }
 

@@ -54,9 +54,8 @@ fn print_repair(kind: &[u8], p: usize, l: usize, seed: usize, tile: &mut [u8]) {
 fn print_fill(kind: &[u8], p: usize, l: usize, seed: usize, tile: &mut [u8]) {
     let one = bytes::next(seed);
     let two = bytes::next(one);
-    let lines = layout::line_count(p);
-    let first = layout::line(p, one / 65536 % lines);
-    let second = layout::line(p, two / 65536 % lines);
+    let first = layout::line_of(p, one);
+    let second = layout::line_of(p, two);
     begin(kind, p, l);
     print::words(b" fill");
     answer::line(first);

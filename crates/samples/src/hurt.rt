@@ -140,21 +140,10 @@ fn print_rows(p: usize, l: usize, written: &mut [u8], tile: &mut [u8]) {
 fn print_line(p: usize, l: usize, seed: usize, line: Line, written: &mut [u8], tile: &mut [u8]) {
     let after_text = written::write(p, l, seed, tile, written);
     bytes::copy(written, tile);
-    change(p, line, after_text, tile);
+    written::change_line(p, line, after_text, tile);
     begin(p, l);
     answer::line(line);
     end_with_repair(p, l, written, tile);
-}
-
-// Changes every byte of a line.
-fn change(p: usize, line: Line, seed: usize, tile: &mut [u8]) {
-    let mut s = seed;
-    for k in 0..tile.len() {
-        if layout::is_on(p, line, k) {
-            s = bytes::next(s);
-            tile[k] = tile[k] ^ bytes::change_of(s);
-        }
-    }
 }
 
 // The first, the last and a middle cell. Its column is named, though its row explains it too. Then a tile that is not hurt.

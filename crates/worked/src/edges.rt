@@ -2,6 +2,7 @@
 // was answered; after a refusal it says whether the lent bytes are as they were, and else it has their checksum.
 use report::answer;
 use report::bytes;
+use report::lent;
 use report::print;
 use report::tally;
 use report::tally::Tally;
@@ -209,7 +210,7 @@ fn print_repair(p: usize, l: usize, copy: &mut [u8], tile: &mut [u8]) {
     print_length(b" tile", tile);
     let repaired = tile::repair(p, l, tile);
     answer::repair(repaired);
-    end_with(answer::is_refused(repaired), bytes::same(copy, tile), tile);
+    lent::end_with(answer::is_refused(repaired), bytes::same(copy, tile), tile);
 }
 
 // Fills the tile with its last byte changed.
@@ -292,24 +293,7 @@ fn print_length(name: &[u8], lent: &[u8]) {
 fn end_with_outcome(outcome: Outcome, is_as_it_was: bool, lent: &[u8]) {
     answer::outcome(outcome);
     match outcome {
-        Outcome::Done => end_with(false, is_as_it_was, lent),
-        Outcome::Refused(_) => end_with(true, is_as_it_was, lent),
-    }
-}
-
-fn end_with(refused: bool, is_as_it_was: bool, lent: &[u8]) {
-    if refused {
-        print_untouched(is_as_it_was);
-    } else {
-        print::checksum(bytes::checksum(lent));
-    }
-    print::end_line();
-}
-
-fn print_untouched(is_as_it_was: bool) {
-    if is_as_it_was {
-        print::words(b" untouched");
-    } else {
-        print::words(b" touched");
+        Outcome::Done => lent::end_with(false, is_as_it_was, lent),
+        Outcome::Refused(_) => lent::end_with(true, is_as_it_was, lent),
     }
 }

@@ -13,4 +13,10 @@ fn main() {
     samples::hurt::print_cases();
     edges::print_cases();
     samples::garbage::print_cases();
+    corrections::places::print_cases();
+    corrections::edges::print_cases();
+    corrections::faults::print_cases();
+    corrections::repeated::print_cases();
+    corrections::many::print_cases();
+    corrections::garbage::print_cases();
 }

@@ -1,4 +1,4 @@
-// The worked tiles 1 to 10 of document 01, all at p 5 and l 2. Each line ends with the bytes that the call left.
+// The worked tiles 1 to 11 of document 01, all at p 5 and l 2. Each line ends with the bytes that the call left.
 use report::answer;
 use report::picture;
 use report::print;
@@ -20,6 +20,7 @@ pub fn print_cases() {
     print_repair(8, b"1 0 0 0 / 0 1 0 0 / 0 0 0 0 / 0 0 0 0");
     print_fill(9, b"? ? ? ? / ? 1 0 0 / ? 0 0 0 / ? 0 0 0");
     print_fill(10, b"? ? ? ? / ? 0 0 0 / ? 0 0 1 / ? 0 0 0");
+    print_correct(11, b"0 0 0 0 / 0 0 0 0 / 0 0 0 1 / 0 0 0 0");
 }
 
 // Writes the text over a tile that holds other bytes; then reads the tile, and repairs it, which must leave it as it is.
@@ -70,6 +71,21 @@ fn print_fill_over(n: usize, picture: &[u8], lost: u8) {
     let filled = tile::fill(P, L, &mut tile, Line::Row(0), Line::Column(0));
     begin(n, b" fill");
     answer::outcome(filled);
+    end_with_tile(&tile);
+}
+
+// Corrects the tile by a sheet of one record: the mark C3 3C, row 0, column 0, was 0, is 1. Then repairs it.
+fn print_correct(n: usize, picture: &[u8]) {
+    let sheet = [0xC3, 0x3C, 0, 0, 0, 0, 0, 1];
+    let mut tile = [0u8; 16];
+    picture::lay(picture, 0, &mut tile);
+    let corrected = sheet::correct(P, L, &mut tile, &sheet);
+    begin(n, b" correct");
+    answer::corrected(corrected);
+    end_with_tile(&tile);
+    let repaired = tile::repair(P, L, &mut tile);
+    begin(n, b" repair");
+    answer::repair(repaired);
     end_with_tile(&tile);
 }
 

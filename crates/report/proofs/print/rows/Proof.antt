@@ -19,14 +19,11 @@ loop-holds c = omega arith
 stroke-before-requires : tie.Need-stroke-before-requires Inv-loop μ-loop
 stroke-before-requires c κs = tt
 
-shared-slice-read-wide : tie.Need-shared-slice-read-wide Inv-loop μ-loop
-shared-slice-read-wide c = omega arith
+shared-slice-read-byte : tie.Need-shared-slice-read-byte Inv-loop μ-loop
+shared-slice-read-byte c = omega arith
 
-wide-requires : tie.Need-wide-requires Inv-loop μ-loop
-wide-requires c κs = tt
-
-number-requires : tie.Need-number-requires Inv-loop μ-loop
-number-requires c κs = tt
+byte-requires : tie.Need-byte-requires Inv-loop μ-loop
+byte-requires c κs = tt
 
 add-k : tie.Need-add-k Inv-loop μ-loop
 add-k c = omega arith
@@ -48,9 +45,8 @@ rows-spec =
     μ-loop
     loop-holds
     stroke-before-requires
-    shared-slice-read-wide
-    wide-requires
-    number-requires
+    shared-slice-read-byte
+    byte-requires
     add-k
     loop-less
     loop-again

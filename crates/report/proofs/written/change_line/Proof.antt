@@ -1,12 +1,12 @@
--- `samples::hurt::change` is safe and ends. The loop's invariant: k is at most the length of `tile`, which stays. The measure is what is
+-- `report::written::change_line` is safe and ends. The loop's invariant: k is at most the length of `tile`, which stays. The measure is what is
 -- left of it. Assumes nothing.
 use mathlib.Core.Path.{_≡_, ap}
 use mathlib.Core.Logic.{⊎-elim}
 use Prim.Native.Nat.{_-_, _≤_}
 use native.Mathlib.Omega.{arith}
 use lib.ListN.{length, length-set}
-use Rattle.samples.proofs.hurt.change.Statement.{statement}
-use Rattle.samples.proofs.hurt.change.Tie as tie
+use Rattle.report.proofs.written.change_line.Statement.{statement}
+use Rattle.report.proofs.written.change_line.Tie as tie
 
 abbrev Inv-loop : tie.InvT-loop
 Inv-loop p line seed tile₀ s₀ k₀ k-end tile s k = (k ≤ k-end) × (k-end ≡ length tile) × (length tile ≡ length tile₀)
@@ -51,8 +51,8 @@ same-length c = omega arith
 returns : tie.Need-returns Inv-loop μ-loop
 returns c = tt
 
-pub change-spec : {M : Type 1} → statement M
-change-spec =
+pub change-line-spec : {M : Type 1} → statement M
+change-line-spec =
     tie.close
     (tie.spec
     Inv-loop

@@ -1,0 +1,75 @@
+"""The correction sheet of document 01: what its records say, which of them are faulty, and what the tile becomes. The change that a
+sheet makes is the good tile written from the text of its differences, and so comes from the definition of a good tile
+(tests/expected/tile.py)."""
+
+from struct import pack, unpack
+
+from expected.tile import place, refusal, text_length, text_of, tile_length, write
+
+MARK = bytes.fromhex("C3 3C")
+LAYOUT = ">2sHHBB"  # big-endian: mark, row (2 bytes), column (2 bytes), the byte that was, the byte that is to be
+LENGTH = 8
+
+
+def record(row, column, was, to_be, mark=MARK):
+    """The bytes of one record."""
+    return list(pack(LAYOUT, bytes(mark), row, column, was, to_be))
+
+
+def records(sheet):
+    """The records of a sheet, with the offset of each."""
+    return [(at, *unpack(LAYOUT, bytes(sheet[at : at + LENGTH]))) for at in range(0, len(sheet), LENGTH)]
+
+
+def fault(p, sheet):
+    """The sheet's own refusal with its offset, or None: 7, then record by record 6 before 4."""
+    if len(sheet) % LENGTH != 0:
+        return "refused 7 at 0"
+    for at, mark, row, column, _, _ in records(sheet):
+        if mark != MARK:
+            return f"refused 6 at {at}"
+        if row > p - 2 or column > p - 4:
+            return f"refused 4 at {at}"
+    return None
+
+
+def differences(sheet):
+    """Each place that is named, with the XOR of the differences given for it."""
+    found = {}
+    for _, _, row, column, was, to_be in records(sheet):
+        found[row, column] = found.get((row, column), 0) ^ was ^ to_be
+    return found
+
+
+def change(p, l, sheet):
+    """The good tile written from the differences, which has zeros elsewhere in its text."""
+    given = differences(sheet)
+    text = [given.get((i, j), 0) for i in range(p - 1) for j in range(p - 3)]
+    assert len(text) == text_length(p)
+    answer, tile = write(p, l, text, [0] * tile_length(p))
+    assert answer == "done" and text_of(p, tile) == text
+    named = {place(p, i, j) for i, j in given}
+    assert all(byte == 0 for k, byte in enumerate(tile) if k % (p - 1) < p - 3 and k not in named)
+    return tile
+
+
+def correct(p, l, tile, sheet):
+    """The answer, and the tile afterwards."""
+    no = refusal(p, l, lambda: len(tile) == tile_length(p))
+    if no:
+        return f"{no} at 0", tile
+    no = fault(p, sheet)
+    if no:
+        return no, tile
+    return f"records {len(sheet) // LENGTH}", added(tile, change(p, l, sheet))
+
+
+def added(tile, other):
+    """The XOR of two tiles, byte by byte."""
+    return [a ^ b for a, b in zip(tile, other, strict=True)]
+
+
+# "An empty sheet answers 0 and changes nothing."
+assert correct(5, 2, list(range(16)), []) == ("records 0", list(range(16)))
+# Worked tile 12: "Correction in column 2 at p 5 refused 4; column 1 accepted."
+assert [correct(5, 2, [0] * 16, record(0, column, 0, 1))[0] for column in (2, 1)] == ["refused 4 at 0", "records 1"]
