@@ -15,9 +15,9 @@ use Rattle.code.specs.Xored.{xored-length, xored-letter, xored-cell, xored-is, 
 use Rattle.code.specs.Writing.{written-once}
 use Rattle.code.specs.declared.Line.{Line}
 use Rattle.tile.specs.Answer as answer
-use Rattle.tile.specs.Calls.{ReadTold, RepairTold, FillTold}
+use Rattle.tile.specs.Calls.{WriteTold, ReadTold, RepairTold, FillTold}
 use Rattle.tile.specs.Admit.{admits, admitted-well, admitted-no}
-use Rattle.tile.specs.Once.{read-told-once, repair-told-once, fill-told-once}
+use Rattle.tile.specs.Once.{write-told-once, read-told-once, repair-told-once, fill-told-once}
 use Rattle.tile.specs.Carry.{repair-carried, fill-carried, repaired-good}
 use Rattle.sheet.specs.Sheet.{records, isOf, given, differences, Whole, SoundBelow}
 use Rattle.sheet.specs.Answer.{Said, corrected, refused}
@@ -113,15 +113,19 @@ module _ (p l n : ℕ) (tile sheet new : List ℕ) (told : CorrectTold p l tile 
         has = text-is p zeros (differences p sheet) large differences-length (λ i j hi hj. given-at i j hi hj ∙ none i j hi hj ∙ sym (tile-in p (λ i j. 0) i j hi (omega arith)));
       }
 
-  -- ---- repair after a sheet
+  -- ---- good tiles, and repair after a sheet
 
-  -- where a good tile is added to one that repair makes good, it is the one written afresh from the text corrected by the differences
+  -- a good tile to which the change is added is the one written afresh from its text corrected by the differences
   afresh : (fixed : List ℕ) → length fixed ≡ tileLength p → Good p l fixed → Writes p l (xored (textOf p fixed) (differences p sheet)) (xored fixed change)
   afresh fixed e g = record {
     size = xored-length fixed change ∙ e;
     good = xored-good p fixed change e l g (changed told .written .good);
     has = xored-text p fixed change e large ∙ ap (xored (textOf p fixed)) (changed told .written .has);
   }
+
+  -- A GOOD TILE stays good, and its text is corrected by the differences
+  pub correct-good : Good p l tile → Good p l new × (textOf p new ≡ xored (textOf p tile) (differences p sheet))
+  correct-good g = let w = rw (← changed told .becomes) at (afresh tile (taken told .2) g) in (w .good, w .has)
 
   -- REPAIR gives the same answer after the sheet as before; its tile is the earlier one with the change added, and where it succeeds that is
   -- the one written afresh from its text corrected by the differences
@@ -132,6 +136,16 @@ module _ (p l n : ℕ) (tile sheet new : List ℕ) (told : CorrectTold p l tile 
       let same = repair-told-once p l new said′ said fixed′ (xored fixed change) after
       (rw (← changed told .becomes) at (repair-carried p l change (changed told .written .good) before)) in
       (same .0, same .1, λ d. let g = repaired-good d before in rw (← same .1) at (afresh fixed (g .0) (g .1)))
+
+  -- so whoever writes that text, over whatever tile, has the same tile
+  pub write-after : (said said′ wrote : answer.Said) (fixed fixed′ lent afresh′ : List ℕ) → RepairTold p l tile said fixed
+      → ((m : ℕ) → said ≡ answer.refused m → ⊥) → RepairTold p l new said′ fixed′ → length lent ≡ tileLength p
+      → WriteTold p l (xored (textOf p fixed) (differences p sheet)) lent wrote afresh′ → (wrote ≡ answer.done) × (afresh′ ≡ fixed′)
+  write-after said said′ wrote fixed fixed′ lent afresh′ before well after e written =
+      let w = repair-after said said′ fixed fixed′ before after .2 well in
+      let t = taken told in
+      write-told-once p l (xored (textOf p fixed) (differences p sheet)) lent wrote answer.done afresh′ fixed′ written
+      (WriteTold.writes (admits (t .0) (t .1) (e, xored-length (textOf p fixed) (differences p sheet) ∙ text-length p fixed)) w)
 
   -- FILLING the same lines gives the same answer, and the tiles differ by the change
   pub fill-after : (a b : Line) (said said′ : answer.Said) (filled filled′ : List ℕ) → FillTold p l tile a b said filled → FillTold p l new a b said′ filled′
