@@ -21,20 +21,30 @@ def print_repaired(kind, p, l, seed):
     print(f"garbage {kind} {p} {l} {seed} repair {answer} checksum {checksum(after)}")
 
 
-def print_filled(kind, p, l, seed):
-    """A fill of two lines of garbage, which the next numbers choose."""
-    tile, last = garbage(kind, p, seed)
+def chosen(p, last):
+    """The two lines that the next numbers choose."""
     one = following(last)
     two = following(one)
-    first, second = (lines_of(p)[s // 65536 % (2 * (p - 1))] for s in (one, two))
+    return [lines_of(p)[s // 65536 % (2 * (p - 1))] for s in (one, two)]
+
+
+def print_filled(kind, p, l, seed):
+    """A fill of two lines of garbage."""
+    tile, last = garbage(kind, p, seed)
+    first, second = chosen(p, last)
     answer, after = fill(p, l, tile, first, second)
     print(f"garbage {kind} {p} {l} fill {line_text(first)} {line_text(second)} {answer} checksum {checksum(after)}")
 
 
+def print_tries(tries, *cases):
+    """These cases at each size and slope that is tried, of so many tiles of each kind."""
+    for p, l in ((5, 2), (5, 3), (7, 3), (7, 5), (11, 2)):
+        for seed in range(tries):
+            for kind in ("bytes", "bits"):
+                for print_case in cases:
+                    print_case(kind, p, l, seed)
+
+
 def print_cases():
     """All lines of this part."""
-    for p, l in ((5, 2), (5, 3), (7, 3), (7, 5), (11, 2)):
-        for seed in range(TRIES):
-            for kind in ("bytes", "bits"):
-                print_repaired(kind, p, l, seed)
-                print_filled(kind, p, l, seed)
+    print_tries(TRIES, print_repaired, print_filled)

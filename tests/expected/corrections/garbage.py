@@ -2,9 +2,7 @@
 
 from expected.corrections.both import filled, repaired
 from expected.corrections.lent import joined, sampled
-from expected.garbage import garbage
-from expected.lost import lines_of
-from expected.sample import following
+from expected.garbage import chosen, garbage, print_tries
 
 TRIES = 8
 COUNT = 5  # how many records a sheet has
@@ -21,16 +19,9 @@ def print_filled(kind, p, l, seed):
     """A fill of two lines of garbage, which the numbers after those of the sheet choose."""
     tile, last = garbage(kind, p, seed)
     made, last = sampled(p, last, COUNT)
-    one = following(last)
-    two = following(one)
-    first, second = (lines_of(p)[s // 65536 % (2 * (p - 1))] for s in (one, two))
-    print(f"sheet garbage {kind} {p} {l} {filled(p, l, joined(made), tile, first, second)}")
+    print(f"sheet garbage {kind} {p} {l} {filled(p, l, joined(made), tile, *chosen(p, last))}")
 
 
 def print_cases():
     """All lines of this part."""
-    for p, l in ((5, 2), (5, 3), (7, 3), (7, 5), (11, 2)):
-        for seed in range(TRIES):
-            for kind in ("bytes", "bits"):
-                print_repaired(kind, p, l, seed)
-                print_filled(kind, p, l, seed)
+    print_tries(TRIES, print_repaired, print_filled)
