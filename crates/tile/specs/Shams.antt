@@ -108,7 +108,7 @@ length-first tile new r =
 
 -- ---- the judgement of size, slope and length
 
--- one that takes tiles with a column too few
+-- one that takes tiles that are too short
 pub takes-12 : Admitted 5 2 (12 ≡ tileLength 5) size.well → ⊥
 takes-12 a = let e = admitted-well a .2 in omega arith
 

@@ -205,15 +205,18 @@ tested (repairs tile said new) =
 tested (fills tile a b said new) =
     so (admitted-tile tile (filled tile a b said new)) (exactly (FillTold 5 2 tile a b) (fill-told-once 5 2 tile a b) said new)
 
+-- what the tests show
+computed : Each Claim cases × Each Claim others
+unfolding each tested mends filled admitted-tile writing same good not-good outside filling none-of none no-line uncrossed no-filling upTo sum cell place textFrom textOf tabulate xorBelow _⊕_
+computed = both (each Claim tested cases) (each Claim tested others) .shows tt
+
 -- THE WORKED TILES: every claim of the list holds
 pub worked : Each Claim cases
-unfolding each tested mends filled admitted-tile writing same good not-good outside filling none-of none no-line uncrossed no-filling upTo sum cell place textFrom textOf tabulate xorBelow _⊕_
-worked = each Claim tested cases .shows tt
+worked = computed .0
 
 -- and every claim of the others
 pub others-worked : Each Claim others
-unfolding each tested mends filled admitted-tile writing same good not-good outside filling none-of none no-line uncrossed no-filling upTo sum cell place textFrom textOf tabulate xorBelow _⊕_
-others-worked = each Claim tested others .shows tt
+others-worked = computed .1
 
 -- the claim of a case by its number, as document 01 numbers the tiles
 pub claimed : (k : ℕ) → Claim (getD cases (k - 1) (writes text-1 tile-1 0))
