@@ -1,5 +1,5 @@
--- The XOR of two tiles, as lists of bytes: it is the XOR of their cells and of their texts, it takes itself back, and with a good tile it
--- keeps what is good, and what is equal outside given lines. Assumes nothing.
+-- The XOR of two tiles, as lists of bytes: it is the XOR of their cells and of their texts, done twice it is undone, and the XOR of two
+-- good tiles is good. Assumes nothing.
 use mathlib.Core.Path.{_≡_, sym, ap, ap₂, _∙_}
 use mathlib.Core.List.{List}
 use Prim.Native.Nat.{ℕ, _-_, _<_}

@@ -11,5 +11,5 @@ pub mod Solve
 pub mod Cases
 pub mod Hurt
 pub mod Change
-pub mod Checks
+pub mod Settled
 pub mod Text

@@ -4,20 +4,21 @@ use crate::pair;
 use crate::pair::Pair;
 use code::Line;
 ghost use mathlib.Core.Path.{_≡_};
-ghost use Prim.Native.Nat.{_≤_};
+ghost use Prim.Native.Nat.{_-_, _≤_};
 ghost use lib.ListN.{length};
 ghost use Rattle.xor.specs.Sum.{xorBelow};
 ghost use Rattle.code.specs.Slope.{Slope};
 ghost use Rattle.code.specs.Tile.{tileLength};
+ghost use Rattle.code.specs.declared.Line.the-variants.{Column};
 ghost use Rattle.lines.specs.Held.{held};
-ghost use Rattle.lines.specs.Checks.{ChecksSettled};
+ghost use Rattle.lines.specs.Settled.{LinesSettled};
 
 // Adds to the check columns the changes that settle the sums a and b.
 pub fn settle(p: usize, l: usize, a: &[u8; 257], b: &[u8; 257], tile: &mut [u8])
     requires { ⌜ Slope p l ⌝ }
     requires { ⌜ (p ≤ 257) × (length (now tile) ≡ tileLength p) ⌝ }
     requires { ⌜ xorBelow p (held (now a)) ≡ xorBelow p (held (now b)) ⌝ }
-    ensures { λ _. ⌜ ChecksSettled p l (held (now (a .entry))) (held (now (b .entry))) (now (tile .entry)) (now (tile .exit)) ⌝ }
+    ensures { λ _. ⌜ LinesSettled p l (Column (p - 3)) (Column (p - 2)) (held (now (a .entry))) (held (now (b .entry))) (now (tile .entry)) (now (tile .exit)) ⌝ }
 {
     let first = p - 3;
     let second = p - 2;

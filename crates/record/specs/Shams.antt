@@ -1,6 +1,5 @@
 -- Wrong programs, each broken by a theorem: no such program meets its contract. Assumes nothing.
 use mathlib.Core.Path.{_≡_}
-use Prim.Native.Nat.{ℕ}
 use native.Mathlib.Omega.{arith}
 use Rattle.record.specs.Number.{bigEndian}
 

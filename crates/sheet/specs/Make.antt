@@ -16,10 +16,11 @@ use Rattle.code.specs.Sums.{Padded, Same, plus, padded-plus, one-sum-ext, lone,
 use Rattle.code.specs.Place.{place-lt, tileOf, tile-length, tile-cells, from-length, from-at, text-is}
 use Rattle.code.specs.Xored.{xored-is}
 use Rattle.code.specs.Settle.{settles-good, settles-sums}
+use Rattle.code.specs.declared.Line.the-variants.{Column}
 use Rattle.lines.specs.Held.{held, ByteAdded, zeros-held}
 use Rattle.lines.specs.Cases.{held-totals}
 use Rattle.lines.specs.Change.{Added, cell-added}
-use Rattle.lines.specs.Checks.{ChecksSettled}
+use Rattle.lines.specs.Settled.{LinesSettled}
 use Rattle.sheet.specs.Sheet.{records, rowOf, columnOf, wasOf, isOf, differenceOf, given, differences, Placed, SoundBelow}
 use Rattle.sheet.specs.Calls.{Corrects}
 
@@ -119,7 +120,7 @@ module _ (p : ℕ) (sheet : List ℕ) (sound : SoundBelow p sheet (records sheet
   }
 
   module _ (l : ℕ) (x y z a b : List ℕ) (S : Slope p l) (e : length x ≡ tileLength p) (made : Made p l sheet x (records sheet) y a b)
-      (settled : ChecksSettled p l (held a) (held b) y z) where
+      (settled : LinesSettled p l (Column (p - 3)) (Column (p - 2)) (held a) (held b) y z) where
     -- .. with what the check columns add, is a tile ..
     abbrev checking : Cells
     checking = settled .by

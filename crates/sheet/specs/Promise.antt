@@ -19,9 +19,10 @@ use Rattle.tile.specs.Calls.{WriteTold, ReadTold, RepairTold, FillTold}
 use Rattle.tile.specs.Admit.{admits, admitted-well, admitted-no}
 use Rattle.tile.specs.Once.{write-told-once, read-told-once, repair-told-once, fill-told-once}
 use Rattle.tile.specs.Carry.{repair-carried, fill-carried, repaired-good}
-use Rattle.sheet.specs.Sheet.{records, isOf, given, differences, Whole, SoundBelow}
+use Rattle.sheet.specs.Sheet.{records, isOf, given, differences, Whole, Placed, SoundBelow}
 use Rattle.sheet.specs.Answer.{Said, corrected, refused}
 use Rattle.sheet.specs.Calls.{sound, Corrects, CorrectTold}
+use Rattle.sheet.specs.Judge.{judged-sound}
 use Rattle.sheet.specs.Make.{given-none, given-off}
 use Rattle.sheet.specs.Once.{judged-told-once}
 use Rattle.sheet.specs.Last.{NoneFrom, Follows, Last, last-made}
@@ -56,6 +57,10 @@ changed (CorrectTold.corrects h j c) = c
 -- where a correction is made, the size is a size, the slope is allowed and the tile has its length
 taken : {p l n : ℕ} {tile sheet new : List ℕ} → CorrectTold p l tile sheet (corrected n) new → Size p × Allowed p l × (length tile ≡ tileLength p)
 taken (CorrectTold.corrects h j c) = admitted-well h
+
+-- and each record has its place in the text
+placed : {p l n : ℕ} {tile sheet new : List ℕ} → CorrectTold p l tile sheet (corrected n) new → (k : ℕ) → k < records sheet → Placed p sheet k
+placed (CorrectTold.corrects h j c) k q = judged-sound j k q .1
 
 module _ (p l n : ℕ) (tile sheet new : List ℕ) (told : CorrectTold p l tile sheet (corrected n) new) where
   -- the good tile that is added
@@ -157,11 +162,14 @@ module _ (p l n : ℕ) (tile sheet new : List ℕ) (told : CorrectTold p l tile 
   -- THE TEXT READ after sheet and repair holds, at a place whose records follow each other, the last "is"
   pub last-is : (said said′ read : answer.Said) (fixed fixed′ page text : List ℕ) (i j k : ℕ) → RepairTold p l tile said fixed
       → ((m : ℕ) → said ≡ answer.refused m → ⊥) → RepairTold p l new said′ fixed′ → length page ≡ textLength p → ReadTold p l fixed′ page read text
-      → i < p - 1 → j < p - 3 → Follows sheet i j (textByte p (textOf p fixed) i j) → Last sheet i j k
+      → Follows sheet i j (textByte p (textOf p fixed) i j) → Last sheet i j k
       → (read ≡ answer.done) × (textByte p text i j ≡ isOf sheet k)
-  last-is said said′ read fixed fixed′ page text i j k before well after e-page reading hi hj follows last =
+  last-is said said′ read fixed fixed′ page text i j k before well after e-page reading follows last =
       let w = repair-after said said′ fixed fixed′ before after .2 well in
       let t = taken told in
+      let at = placed told k (last .within) in
+      let hi : i < p - 1 = omega (arith, at .0, last .names .0) in
+      let hj : j < p - 3 = omega (arith, at .1, last .names .1) in
       let r = read-told-once p l fixed′ page read answer.done text (textOf p fixed′) reading (ReadTold.reads (admits (t .0) (t .1) (w .size, e-page)) (w .good)) in (
         r .0,
         ap (λ (u : List ℕ). textByte p u i j) (r .1 ∙ w .has) ∙ xored-letter p (textOf p fixed) (differences p sheet) i j (text-length p fixed) hi hj

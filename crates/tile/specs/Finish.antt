@@ -1,5 +1,5 @@
 -- How each call ends: what the engine told, and what was done to the tile, make an outcome that the call's relation allows. Assumes nothing.
-use mathlib.Core.Path.{_≡_, _∙_}
+use mathlib.Core.Path.{_≡_, refl, _∙_}
 use mathlib.Core.List.{List}
 use Prim.Native.Nat.{ℕ, _-_, _<_}
 use native.Mathlib.Omega.{arith}
@@ -15,14 +15,14 @@ use Rattle.lines.specs.Solve.{SettledBy, Unsettled}
 use Rattle.lines.specs.Good.{one-good, good-one}
 use Rattle.lines.specs.Hurt as hurt
 use Rattle.lines.specs.Change.{Added}
-use Rattle.lines.specs.Checks.{ChecksSettled}
+use Rattle.lines.specs.Settled.{LinesSettled, both-added}
 use Rattle.lines.specs.Text.{Laid}
 use Rattle.lines.specs.declared.hurt.Hurt.{Hurt}
 use Rattle.lines.specs.declared.hurt.Hurt.the-variants as found
 use Rattle.tile.specs.Answer.{done, clean, column, row, refused}
 use Rattle.tile.specs.Calls.{Admitted, TileLength, BothLengths, WriteTold, writes, Unexplained, RepairTold, is-good, by-column, by-row, by-none, Has, FillTold, fills, none}
 use Rattle.tile.specs.Admit.{admitted-well}
-use Rattle.tile.specs.Made.{line-explains, line-unexplained, lines-fill, checks-fill, lines-unfilled, laid-writes}
+use Rattle.tile.specs.Made.{line-explains, line-unexplained, settled-fill, lines-unfilled, laid-writes}
 
 -- the slope that was admitted
 pub slope-of : {p l : ℕ} {Lengths : Type 0} → Admitted p l Lengths size.well → Slope p l
@@ -79,7 +79,8 @@ pub ends-filled : (p l : ℕ) (b c : Line) (X Y : ℕ → ℕ) (x y z : List ℕ
     → SettledBy p l b c (sum p 1 (cell p x)) (sum p l (cell p x)) X Y → length y ≡ length x → length z ≡ length y
     → Added p (along b X) x y → Added p (along c Y) y z → FillTold p l x b c done z
 ends-filled p l b c X Y x y z a h s ey ez first second =
-    fills a (h .0) (h .1) (lines-fill p l b c X Y x y z (omega arith) (omega arith) (ez ∙ ey ∙ admitted-well a .2) s first second)
+    fills a (h .0) (h .1) (settled-fill p l b c _ _ x z (admitted-well a .2) (λ t q. refl) (λ t q. refl)
+    (both-added p l b c _ _ X Y x y z (omega arith) (omega arith) s first second ey ez))
 
 pub ends-unfilled : (p l : ℕ) (b c : Line) (x : List ℕ) → Admitted p l (TileLength p x) size.well → Has p b × Has p c
     → Unsettled p l b c (sum p 1 (cell p x)) (sum p l (cell p x)) → FillTold p l x b c (refused 5) x
@@ -90,7 +91,7 @@ ends-unfilled p l b c x a h n = none a (h .0) (h .1) (lines-unfilled p l b c x n
 -- the text is laid in, and the check columns settle the sums
 pub ends-written : (p l : ℕ) (A B : ℕ → ℕ) (text x y z : List ℕ) → Admitted p l (BothLengths p x text) size.well → Laid p text x y
     → ((t : ℕ) → t < p → A t ≡ sum p 1 (cell p y) t) → ((t : ℕ) → t < p → B t ≡ sum p l (cell p y) t)
-    → ChecksSettled p l A B y z → WriteTold p l text x done z
+    → LinesSettled p l (Column (p - 3)) (Column (p - 2)) A B y z → WriteTold p l text x done z
 ends-written p l A B text x y z a laid ha hb settled =
     let h = admitted-well a in
-    writes a (laid-writes p l text x y z (omega (arith, h .0 .low)) (h .2 .1) laid (checks-fill p l A B y z (laid .size ∙ h .2 .0) ha hb settled))
+    writes a (laid-writes p l text x y z (omega (arith, h .0 .low)) (h .2 .1) laid (settled-fill p l (Column (p - 3)) (Column (p - 2)) A B y z (laid .size ∙ h .2 .0) ha hb settled))

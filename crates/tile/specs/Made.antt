@@ -5,7 +5,7 @@ use mathlib.Core.List.{List}
 use Prim.Native.Nat.{ℕ, _-_, _<_}
 use native.Mathlib.Omega.{arith}
 use lib.ListN.{length}
-use Rattle.xor.specs.Xor.{_⊕_, assoc, zero-r, self}
+use Rattle.xor.specs.Xor.{_⊕_, zero-r, self}
 use Rattle.code.specs.Slope.{Slope, slope-inverse}
 use Rattle.code.specs.Tile.{Cells, tileLength, cell, sum, Good, textLength, Writes, On, Fills}
 use Rattle.code.specs.Sums.{Padded, plus, padded-plus, one-sum-ext}
@@ -16,9 +16,9 @@ use Rattle.code.specs.Filling.{filled-settles, filled-off}
 use Rattle.code.specs.declared.Line.{Line}
 use Rattle.code.specs.declared.Line.the-variants.{Column}
 use Rattle.lines.specs.Column.{Shifted}
-use Rattle.lines.specs.Solve.{SettledBy, Unsettled}
+use Rattle.lines.specs.Solve.{Unsettled}
 use Rattle.lines.specs.Change.{Added}
-use Rattle.lines.specs.Checks.{ChecksSettled}
+use Rattle.lines.specs.Settled.{LinesSettled}
 use Rattle.lines.specs.Text.{Laid}
 use Rattle.tile.specs.Calls.{Explains, Unexplained, Has}
 use Rattle.tile.specs.Explain.{explains-has, explained}
@@ -52,22 +52,10 @@ pub line-unexplained : (p l : ℕ) (a : Line) (x : List ℕ) → Slope p l → (
     → (number a < p - 1 → Agree p l (sum p 1 (cell p x)) (sum p l (cell p x)) a → ⊥) → Unexplained p l x a
 line-unexplained p l a x S bad d y e = let h = explains-has p l a x y bad e in d (omega arith) (explained p l a x S h .0 (y, e))
 
--- two lines' changes, one after the other
-pub lines-fill : (p l : ℕ) (a b : Line) (X Y : ℕ → ℕ) (x y z : List ℕ) → number a < p - 1 → number b < p - 1 → length z ≡ tileLength p
-    → SettledBy p l a b (sum p 1 (cell p x)) (sum p l (cell p x)) X Y → Added p (along a X) x y → Added p (along b Y) y z → Fills p l a b x z
-lines-fill p l a b X Y x y z ha hb size s first second = record {
-  size = size;
-  good =
-      changed-good p l x z (plus (along a X) (along b Y))
-      (padded-plus p (along a X) (along b Y) (along-padded p a X ha (s .first)) (along-padded p b Y hb (s .second))) (s .settles)
-      (λ i j hi hj. second i j hi hj ∙ ap (λ (w : ℕ). w ⊕ along b Y i j) (first i j hi hj) ∙ assoc _ _ _);
-  agrees = λ i j hi hj d e. unchanged p a X x y first i j hi hj d ∙ unchanged p b Y y z second i j hi hj e;
-}
-
--- a change in the check columns
-pub checks-fill : (p l : ℕ) (A B : ℕ → ℕ) (x y : List ℕ) → length x ≡ tileLength p → ((t : ℕ) → t < p → A t ≡ sum p 1 (cell p x) t)
-    → ((t : ℕ) → t < p → B t ≡ sum p l (cell p x) t) → ChecksSettled p l A B x y → Fills p l (Column (p - 3)) (Column (p - 2)) x y
-checks-fill p l A B x y e ha hb c = record {
+-- a change in two lines
+pub settled-fill : (p l : ℕ) (a b : Line) (A B : ℕ → ℕ) (x y : List ℕ) → length x ≡ tileLength p → ((t : ℕ) → t < p → A t ≡ sum p 1 (cell p x) t)
+    → ((t : ℕ) → t < p → B t ≡ sum p l (cell p x) t) → LinesSettled p l a b A B x y → Fills p l a b x y
+settled-fill p l a b A B x y e ha hb c = record {
   size = c .size ∙ e;
   good = changed-good p l x y (c .by) (c .padded) (settles-sums p l A B _ _ (c .by) ha hb (c .settles)) (c .added);
   agrees = λ i j hi hj d q.

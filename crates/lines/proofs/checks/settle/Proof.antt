@@ -3,7 +3,7 @@ use native.Mathlib.Omega.{arith}
 use borrow.Author.Needs.{needs}
 use Rattle.lines.specs.Held.{held}
 use Rattle.lines.specs.Cases.{columns-close}
-use Rattle.lines.specs.Checks.{both-added}
+use Rattle.lines.specs.Settled.{both-added}
 use Rattle.lines.proofs.checks.settle.Statement.{statement}
 use Rattle.lines.proofs.checks.settle.Tie as tie
 
@@ -41,8 +41,8 @@ returns c =
     let start = solved .before .before in
     let slope = start .pre .0 in
     let changes = solved .solve in
-    both-added (start .args .p) (start .args .l) (held (start .args .a .now)) (held (start .args .b .now)) (held (changes .result .column)) (held (changes .result .line))
-    (start .args .tile .now) _ _ (omega (arith, slope .low, slope .high)) (changes .ensures) (first .add-line .ensures .0) (second .add-line2 .ensures .0)
+    both-added (start .args .p) (start .args .l) _ _ (held (start .args .a .now)) (held (start .args .b .now)) (held (changes .result .column)) (held (changes .result .line))
+    (start .args .tile .now) _ _ (omega (arith, slope .high)) (omega (arith, slope .high)) (changes .ensures) (first .add-line .ensures .0) (second .add-line2 .ensures .0)
     (first .add-line .ensures .1) (second .add-line2 .ensures .1)
 
 pub settle-spec : {M : Type 1} → statement M

@@ -1,0 +1,35 @@
+-- A tile once a change in two lines that settles sums is added to it. Assumes nothing.
+use mathlib.Core.Path.{_≡_, ap, _∙_}
+use mathlib.Core.List.{List}
+use Prim.Native.Nat.{ℕ, _-_, _<_}
+use lib.ListN.{length}
+use Rattle.xor.specs.Xor.{_⊕_, assoc, zero-l}
+use Rattle.code.specs.Tile.{Cells}
+use Rattle.code.specs.Sums.{Padded, plus, padded-plus}
+use Rattle.code.specs.Settle.{Settles}
+use Rattle.code.specs.OneLine.{number, along, along-off, along-padded}
+use Rattle.code.specs.Pair.{ZeroOffBoth}
+use Rattle.code.specs.declared.Line.{Line}
+use Rattle.lines.specs.Solve.{SettledBy}
+use Rattle.lines.specs.Change.{Added}
+
+-- y is x with a change in the lines a and b that settles the sums A and B
+pub record LinesSettled (p l : ℕ) (a b : Line) (A B : ℕ → ℕ) (x y : List ℕ) : Type 0 where
+  pub by : Cells
+  pub settles : Settles p l A B by
+  pub padded : Padded p by
+  pub off : ZeroOffBoth p a b by
+  pub added : Added p by x y
+  pub size : length y ≡ length x
+
+-- the changes in both are added, one after the other
+pub both-added : (p l : ℕ) (a b : Line) (A B X Y : ℕ → ℕ) (x y z : List ℕ) → number a < p - 1 → number b < p - 1 → SettledBy p l a b A B X Y
+    → Added p (along a X) x y → Added p (along b Y) y z → length y ≡ length x → length z ≡ length y → LinesSettled p l a b A B x z
+both-added p l a b A B X Y x y z ha hb s first second ey ez = record {
+  by = plus (along a X) (along b Y);
+  settles = s .settles;
+  padded = padded-plus p (along a X) (along b Y) (along-padded p a X ha (s .first)) (along-padded p b Y hb (s .second));
+  off = λ i j hi hj d e. ap (λ (w : ℕ). w ⊕ along b Y i j) (along-off p a X i j hi hj d) ∙ zero-l _ ∙ along-off p b Y i j hi hj e;
+  added = λ i j hi hj. second i j hi hj ∙ ap (λ (w : ℕ). w ⊕ along b Y i j) (first i j hi hj) ∙ assoc _ _ _;
+  size = ez ∙ ey;
+}
