@@ -8,14 +8,10 @@ use native.Mathlib.Decide.{ℕ-discrete}
 use native.Mathlib.Omega.{arith, by-contra}
 use borrow.Author.Tests.{eq-eqb}
 use Rattle.xor.specs.Xor.{_⊕_, assoc, again, zero-r}
-use Rattle.sheet.specs.Sheet.{records, rowOf, columnOf, wasOf, isOf, given}
+use Rattle.sheet.specs.Sheet.{records, rowOf, columnOf, Names, wasOf, isOf, given}
 use Rattle.sheet.specs.Make.{lonely, lonely-off, given-none, given-more}
 
--- the k-th record names row i and column j
-abbrev pub Names : List ℕ → ℕ → ℕ → ℕ → Type 0
-Names sheet i j k = (i ≡ rowOf sheet k) × (j ≡ columnOf sheet k)
-
--- no record does, from the m-th to the one before the n-th
+-- no record names row i and column j, from the m-th to the one before the n-th
 abbrev pub NoneFrom : List ℕ → ℕ → ℕ → ℕ → ℕ → Type 0
 NoneFrom sheet i j m n = (k : ℕ) → m ≤ k → k < n → Names sheet i j k → ⊥
 

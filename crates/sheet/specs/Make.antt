@@ -11,17 +11,17 @@ use borrow.Author.Tests.{ne-eqb}
 use Rattle.xor.specs.Xor.{_⊕_, ⊕-is, assoc, zero-r}
 use Rattle.xor.specs.Sum.{xorBelow, keep, keep-zero, none, more, zeros}
 use Rattle.code.specs.Slope.{Slope}
-use Rattle.code.specs.Tile.{Cells, tileLength, place, cell, line, sum, textFrom, Writes}
+use Rattle.code.specs.Tile.{Cells, tileLength, place, cell, line, sum, textLength, Writes}
 use Rattle.code.specs.Sums.{Padded, Same, plus, padded-plus, one-sum-ext, lone, sum-plus, sum-ext, sum-zeros, sum-lone}
-use Rattle.code.specs.Place.{place-lt, tileOf, tile-length, tile-cells, from-length, from-at, text-is}
+use Rattle.code.specs.Place.{place-lt, tileOf, tile-length, tile-cells, from-length, from-at, textByte, text-is}
 use Rattle.code.specs.Xored.{xored-is}
 use Rattle.code.specs.Settle.{settles-good, settles-sums}
 use Rattle.code.specs.declared.Line.the-variants.{Column}
-use Rattle.lines.specs.Held.{held, ByteAdded, zeros-held}
+use Rattle.lines.specs.Held.{held, Sums, ByteAdded, zeros-held}
 use Rattle.lines.specs.Cases.{held-totals}
 use Rattle.lines.specs.Change.{Added, cell-added}
 use Rattle.lines.specs.Settled.{LinesSettled}
-use Rattle.sheet.specs.Sheet.{records, rowOf, columnOf, wasOf, isOf, differenceOf, given, differences, Placed, SoundBelow}
+use Rattle.sheet.specs.Sheet.{records, rowOf, columnOf, Names, wasOf, isOf, differenceOf, given, differences, Placed, SoundBelow}
 use Rattle.sheet.specs.Calls.{Corrects}
 
 -- what one record adds
@@ -43,8 +43,8 @@ pub record Made (p l : ℕ) (sheet x : List ℕ) (n : ℕ) (y a b : List ℕ) : 
   pub first-size : length a ≡ 257
   pub second-size : length b ≡ 257
   pub cells : Added p (given sheet n) x y
-  pub first : (t : ℕ) → t < p → held a t ≡ sum p 1 (given sheet n) t
-  pub second : (t : ℕ) → t < p → held b t ≡ sum p l (given sheet n) t
+  pub first : Sums p 1 (given sheet n) a
+  pub second : Sums p l (given sheet n) b
 
 -- none is made yet
 pub made-none : (p l : ℕ) (sheet x : List ℕ) → Made p l sheet x 0 x (replicate 257 0) (replicate 257 0)
@@ -58,14 +58,13 @@ made-none p l sheet x = record {
 }
 
 -- a record's cell stands within the tile
-pub cell-within : (p l : ℕ) (sheet x : List ℕ) (n : ℕ) (y a b : List ℕ) (i j k : ℕ) → Placed p sheet n → (i ≡ rowOf sheet n) × (j ≡ columnOf sheet n)
-    → k ≡ place p i j → length x ≡ tileLength p → Made p l sheet x n y a b → k < length y
+pub cell-within : (p l : ℕ) (sheet x : List ℕ) (n : ℕ) (y a b : List ℕ) (i j k : ℕ) → Placed p sheet n → Names sheet i j n → k ≡ place p i j
+    → length x ≡ tileLength p → Made p l sheet x n y a b → k < length y
 cell-within p l sheet x n y a b i j k h at-place k-is e made = omega (arith, k-is, e, made .size, place-lt p i j (omega arith) (omega arith))
 
 -- one more is made: to the sums of either slope ..
 sum-more : (p s : ℕ) (sheet : List ℕ) (n d : ℕ) (a a′ : List ℕ) → rowOf sheet n < p → columnOf sheet n < p → d ≡ differenceOf sheet n
-    → ((t : ℕ) → t < p → held a t ≡ sum p s (given sheet n) t) → ByteAdded p s (rowOf sheet n) (columnOf sheet n) d a a′
-    → (t : ℕ) → t < p → held a′ t ≡ sum p s (given sheet (n + 1)) t
+    → Sums p s (given sheet n) a → ByteAdded p s (rowOf sheet n) (columnOf sheet n) d a a′ → Sums p s (given sheet (n + 1)) a′
 sum-more p s sheet n d a a′ hi hj e held-a added t h =
     added t
     ∙ ap₂ _⊕_ (held-a t h) (ap (keep (eqb (line p s (rowOf sheet n) (columnOf sheet n)) t)) e ∙ sym (sum-lone p s t (rowOf sheet n) (columnOf sheet n) (differenceOf sheet n) hi hj))
@@ -73,7 +72,7 @@ sum-more p s sheet n d a a′ hi hj e held-a added t h =
 
 -- .. and to its cell. The record names row i and column j, and says that w was and v is to be
 pub made-more : (p l : ℕ) (sheet x : List ℕ) (n : ℕ) (y a b : List ℕ) (i j w v k : ℕ) (a′ b′ : List ℕ) → Placed p sheet n
-    → (i ≡ rowOf sheet n) × (j ≡ columnOf sheet n) → (w ≡ wasOf sheet n) × (v ≡ isOf sheet n) → k ≡ place p i j → k < length y → Made p l sheet x n y a b
+    → Names sheet i j n → (w ≡ wasOf sheet n) × (v ≡ isOf sheet n) → k ≡ place p i j → k < length y → Made p l sheet x n y a b
     → ByteAdded p 1 i j (bitXor w v) a a′ → ByteAdded p l i j (bitXor w v) b b′ → length a′ ≡ 257 → length b′ ≡ 257
     → Made p l sheet x (n + 1) (set y k (bitXor (held y k) (bitXor w v))) a′ b′
 made-more p l sheet x n y a b i j w v k a′ b′ h at-place by k-is within made to-a to-b ea eb = record {
@@ -91,10 +90,20 @@ made-more p l sheet x n y a b i j w v k a′ b′ h at-place by k-is within made
     difference-is : bitXor w v ≡ differenceOf sheet n
     difference-is = ap₂ bitXor (by .0) (by .1) ∙ ⊕-is (wasOf sheet n) (isOf sheet n)
 
--- ---- what they make
+-- ---- the differences, as a text
+
+pub differences-length : (p : ℕ) (sheet : List ℕ) → length (differences p sheet) ≡ textLength p
+unfolding differences
+differences-length p sheet = from-length p (given sheet (records sheet))
+
+pub differences-at : (p : ℕ) (sheet : List ℕ) (i j : ℕ) → i < p - 1 → j < p - 3 → textByte p (differences p sheet) i j ≡ given sheet (records sheet) i j
+unfolding differences
+differences-at p sheet = from-at p (given sheet (records sheet))
+
+-- ---- what the records make
 
 -- a record gives nothing for another place
-pub lonely-off : (sheet : List ℕ) (k i j : ℕ) → ((i ≡ rowOf sheet k) × (j ≡ columnOf sheet k) → ⊥) → lonely sheet k i j ≡ 0
+pub lonely-off : (sheet : List ℕ) (k i j : ℕ) → (Names sheet i j k → ⊥) → lonely sheet k i j ≡ 0
 lonely-off sheet k i j d = go (ℕ-discrete i (rowOf sheet k)) (ℕ-discrete j (columnOf sheet k))
   where
     go : Dec (i ≡ rowOf sheet k) → Dec (j ≡ columnOf sheet k) → lonely sheet k i j ≡ 0
@@ -103,7 +112,7 @@ lonely-off sheet k i j d = go (ℕ-discrete i (rowOf sheet k)) (ℕ-discrete j (
     go (no e) f = rw (ne-eqb i (rowOf sheet k) e)
 
 -- so for a place that no record names, nothing is given
-pub given-off : (sheet : List ℕ) (n i j : ℕ) → ((k : ℕ) → k < n → (i ≡ rowOf sheet k) × (j ≡ columnOf sheet k) → ⊥) → given sheet n i j ≡ 0
+pub given-off : (sheet : List ℕ) (n i j : ℕ) → ((k : ℕ) → k < n → Names sheet i j k → ⊥) → given sheet n i j ≡ 0
 unfolding given
 given-off sheet n i j d = zeros n _ (λ k h. lonely-off sheet k i j (d k h))
 
@@ -134,13 +143,12 @@ module _ (p : ℕ) (sheet : List ℕ) (sound : SoundBelow p sheet (records sheet
 
     -- .. good, and with the differences as its text)
     change-written : Writes p l (differences p sheet) made-change
-    unfolding differences
     change-written = record {
       size = tile-length p (plus differing checking);
       good = one-sum-ext p l (plus differing checking) (cell p made-change) (λ i j hi hj. sym (change-cells i j hi hj))
           (settles-good p l differing checking (settles-sums p l (held a) (held b) (sum p 1 differing) (sum p l differing) checking (made .first) (made .second) (settled .settles)));
-      has = text-is p made-change (textFrom p differing) (omega (arith, S .low, S .high)) (from-length p differing) (λ i j hi hj.
-          from-at p differing i j hi hj
+      has = text-is p made-change (differences p sheet) (omega (arith, S .low, S .high)) (differences-length p sheet) (λ i j hi hj.
+          differences-at p sheet i j hi hj
           ∙ sym (change-cells i j (omega arith) (omega arith) ∙ ap (λ (w : ℕ). differing i j ⊕ w) (settled .off i j (omega arith) (omega arith) (omega arith) (omega arith)) ∙ zero-r _));
     }
 

@@ -1,6 +1,7 @@
 -- WHAT THE PROMISE MEANS FOR A USER: what a sheet changes and what it leaves, in any tile, sound or not; that repair and fill come to the
 -- same after it as before; and that a corrected place is read as its last "is". Assumes nothing.
 use mathlib.Core.Path.{_≡_, refl, sym, ap, _∙_}
+use mathlib.Core.Logic.{inl}
 use mathlib.Core.List.{List, []}
 use Prim.Native.Nat.{ℕ, _-_, _*_, _<_}
 use native.Mathlib.Omega.{arith}
@@ -9,11 +10,11 @@ use Rattle.xor.specs.Xor.{_⊕_, zero-r}
 use Rattle.code.specs.Size.{Size, Allowed}
 use Rattle.code.specs.Slope.{allowed-slope}
 use Rattle.code.specs.Tile.{tileLength, cell, Good, textLength, textOf, Writes, xored}
-use Rattle.code.specs.Sums.{sum-zeros}
-use Rattle.code.specs.Place.{tileOf, tile-length, tile-in, tile-cells, from-length, from-at, textByte, text-length, text-at, text-is}
+use Rattle.code.specs.Place.{cell-padded, textByte, text-length, text-at}
 use Rattle.code.specs.Xored.{xored-length, xored-letter, xored-cell, xored-is, xored-good, xored-text}
-use Rattle.code.specs.Writing.{written-once}
+use Rattle.code.specs.Distance.{Blank, lines-blank, within-off}
 use Rattle.code.specs.declared.Line.{Line}
+use Rattle.code.specs.declared.Line.the-variants.{Column}
 use Rattle.tile.specs.Answer as answer
 use Rattle.tile.specs.Calls.{WriteTold, ReadTold, RepairTold, FillTold}
 use Rattle.tile.specs.Admit.{admits, admitted-well, admitted-no}
@@ -23,7 +24,7 @@ use Rattle.sheet.specs.Sheet.{records, isOf, given, differences, Whole, 
 use Rattle.sheet.specs.Answer.{Said, corrected, refused}
 use Rattle.sheet.specs.Calls.{sound, Corrects, CorrectTold}
 use Rattle.sheet.specs.Judge.{judged-sound}
-use Rattle.sheet.specs.Make.{given-none, given-off}
+use Rattle.sheet.specs.Make.{given-none, given-off, differences-at}
 use Rattle.sheet.specs.Once.{judged-told-once}
 use Rattle.sheet.specs.Last.{NoneFrom, Follows, Last, last-made}
 
@@ -70,17 +71,9 @@ module _ (p l n : ℕ) (tile sheet new : List ℕ) (told : CorrectTold p l tile 
   large : 3 < p
   large = omega (arith, taken told .0 .low)
 
-  -- the differences, place by place
-  given-at : (i j : ℕ) → i < p - 1 → j < p - 3 → textByte p (differences p sheet) i j ≡ given sheet (records sheet) i j
-  unfolding differences
-  given-at i j hi hj = from-at p (given sheet (records sheet)) i j hi hj
-
-  differences-length : length (differences p sheet) ≡ textLength p
-  unfolding differences
-  differences-length = from-length p (given sheet (records sheet))
-
+  -- in the text the change holds the differences
   change-at : (i j : ℕ) → i < p - 1 → j < p - 3 → cell p change i j ≡ given sheet (records sheet) i j
-  change-at i j hi hj = sym (text-at p change i j hi hj) ∙ ap (λ (t : List ℕ). textByte p t i j) (changed told .written .has) ∙ given-at i j hi hj
+  change-at i j hi hj = sym (text-at p change i j hi hj) ∙ ap (λ (t : List ℕ). textByte p t i j) (changed told .written .has) ∙ differences-at p sheet i j hi hj
 
   -- THE CHANGE is good, has the differences as its text, and is zero outside the corrected places and the two check columns
   pub change-is : Good p l change × (textOf p change ≡ differences p sheet)
@@ -97,26 +90,18 @@ module _ (p l n : ℕ) (tile sheet new : List ℕ) (told : CorrectTold p l tile 
       ap (λ (t : List ℕ). cell p t i j) (changed told .becomes) ∙ xored-cell p tile change (taken told .2) i j hi (omega arith)
       ∙ ap (λ (x : ℕ). cell p tile i j ⊕ x) (change-is .2 i j hi hj none) ∙ zero-r _
 
-  -- where all differences cancel out, it is not touched at all: the good tile of zeros is the one that is added
+  -- where all differences cancel out, it is not touched at all: a good tile that is zero outside the check columns is zero
   pub cancelled : ((i j : ℕ) → i < p - 1 → j < p - 3 → given sheet (records sheet) i j ≡ 0) → new ≡ tile
   cancelled none =
       let e = taken told .2 in
       changed told .becomes
-      ∙ ap (xored tile) (written-once p l (differences p sheet) change zeros (allowed-slope p l (taken told .0) (taken told .1)) (changed told .written) zeros-written)
-      ∙ sym (xored-is p tile zeros e tile (omega (arith, large)) e (λ i j hi hj. sym (ap (λ (x : ℕ). cell p tile i j ⊕ x) (tile-in p (λ i j. 0) i j hi hj) ∙ zero-r _)))
+      ∙ sym (xored-is p tile change e tile (omega (arith, large)) e (λ i j hi hj. sym (ap (λ (x : ℕ). cell p tile i j ⊕ x) (zero i j (omega arith) (omega arith)) ∙ zero-r _)))
     where
-      zeros : List ℕ
-      zeros = tileOf p (λ i j. 0)
-
-      blank : (i j : ℕ) → i < p → j < p → cell p zeros i j ≡ 0
-      blank = tile-cells p (λ i j. 0) (record { row = λ j h. refl; column = λ i h. refl })
-
-      zeros-written : Writes p l (differences p sheet) zeros
-      zeros-written = record {
-        size = tile-length p (λ i j. 0);
-        good = record { common = 0; first = λ t h. sum-zeros p 1 t (cell p zeros) blank; second = λ t h. sum-zeros p l t (cell p zeros) blank };
-        has = text-is p zeros (differences p sheet) large differences-length (λ i j hi hj. given-at i j hi hj ∙ none i j hi hj ∙ sym (tile-in p (λ i j. 0) i j hi (omega arith)));
-      }
+      zero : Blank p (cell p change)
+      zero =
+          lines-blank p l (Column (p - 3)) (Column (p - 2)) (cell p change) (allowed-slope p l (taken told .0) (taken told .1)) (inl tt) (omega (arith, large)) (omega (arith, large))
+          (changed told .written .good) (cell-padded p change) (within-off p (Column (p - 3)) (Column (p - 2)) (cell p change) (cell-padded p change) (λ i j hi hj d q.
+          let text : j < p - 3 = omega arith in change-at i j hi text ∙ none i j hi text))
 
   -- ---- good tiles, and repair after a sheet
 
@@ -173,7 +158,7 @@ module _ (p l n : ℕ) (tile sheet new : List ℕ) (told : CorrectTold p l tile 
       let r = read-told-once p l fixed′ page read answer.done text (textOf p fixed′) reading (ReadTold.reads (admits (t .0) (t .1) (w .size, e-page)) (w .good)) in (
         r .0,
         ap (λ (u : List ℕ). textByte p u i j) (r .1 ∙ w .has) ∙ xored-letter p (textOf p fixed) (differences p sheet) i j (text-length p fixed) hi hj
-            ∙ ap (λ (x : ℕ). textByte p (textOf p fixed) i j ⊕ x) (given-at i j hi hj) ∙ last-made sheet i j (textByte p (textOf p fixed) i j) follows k last,
+            ∙ ap (λ (x : ℕ). textByte p (textOf p fixed) i j ⊕ x) (differences-at p sheet i j hi hj) ∙ last-made sheet i j (textByte p (textOf p fixed) i j) follows k last,
       )
 
 -- an empty sheet answers 0 and changes nothing

@@ -34,6 +34,10 @@ wasOf sheet k = byteOf sheet k 6
 abbrev pub isOf : List ℕ → ℕ → ℕ
 isOf sheet k = byteOf sheet k 7
 
+-- the k-th record names row i and column j
+abbrev pub Names : List ℕ → ℕ → ℕ → ℕ → Type 0
+Names sheet i j k = (i ≡ rowOf sheet k) × (j ≡ columnOf sheet k)
+
 -- "A record's difference is was XOR is."
 abbrev pub differenceOf : List ℕ → ℕ → ℕ
 differenceOf sheet k = wasOf sheet k ⊕ isOf sheet k

@@ -12,7 +12,7 @@ ghost use lib.ListN.{length};
 ghost use Rattle.code.specs.Slope.{Slope};
 ghost use Rattle.code.specs.Tile.{tileLength};
 ghost use Rattle.size.specs.Answer.{Says};
-ghost use Rattle.sheet.specs.Sheet.{records, Marked, rowOf, columnOf, wasOf, isOf, SoundBelow};
+ghost use Rattle.sheet.specs.Sheet.{records, Marked, Names, wasOf, isOf, SoundBelow};
 ghost use Rattle.sheet.specs.Calls.{Judged, Corrects, CorrectTold};
 ghost use Rattle.sheet.specs.Answer.{correctedSaid};
 
@@ -38,7 +38,7 @@ struct Correction {
 fn nth(sheet: &[u8], k: usize) -> Correction
     requires { ⌜ k < records (now sheet) ⌝ }
     ensures { λ r. ⌜ Says (r .marked) (Marked (now (sheet .entry)) k) ⌝ }
-    ensures { λ r. ⌜ (r .row ≡ rowOf (now (sheet .entry)) k) × (r .column ≡ columnOf (now (sheet .entry)) k) ⌝ }
+    ensures { λ r. ⌜ Names (now (sheet .entry)) (r .row) (r .column) k ⌝ }
     ensures { λ r. ⌜ (r .was ≡ wasOf (now (sheet .entry)) k) × (r .is ≡ isOf (now (sheet .entry)) k) ⌝ }
 {
     let at = RECORD * k;
