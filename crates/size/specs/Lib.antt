@@ -4,6 +4,7 @@ pub mod Answer
 pub mod Told
 pub mod SizeTest
 pub mod SlopeTest
+pub mod Total
 pub mod Table
 pub mod Once
 pub mod Shams

@@ -1,0 +1,2 @@
+pub mod Other
+pub mod Held

@@ -1,0 +1,60 @@
+-- WHAT A READER MUST BELIEVE: what the calls on a reel promise, in the words of document 01. All are answers about a place, and change
+-- nothing. Of the prover's model of a slice, `RefT`, they use `now`, the list of its bytes, and `ptr`, where its first byte stands: a block
+-- of memory, and an offset in it. Assumes nothing.
+use mathlib.Core.Path.{_≡_}
+use mathlib.Core.List.{List, []}
+use Prim.Native.Nat.{ℕ, _+_, _-_, _≤_, _<_}
+use lib.ListN.{length, take, drop}
+use denote.Ref.{RefT, ptr, now}
+use Rattle.code.specs.Tile.{tileLength}
+use Rattle.size.specs.Answer as size
+use Rattle.reel.specs.Answer.{Said, tile, end, refused}
+use Rattle.reel.specs.Reel.{Marked, sizeOf, slopeOf, numberOf, bytesAt, HeaderWhole, RecordWhole}
+
+-- NEXT. "A place at or past the end of the bytes gives the end." "Reel record: 7 for the header, 6, 1, 2, 7 for the body." "A refusal stays
+-- at the record's first byte."
+pub data NextTold (reel : List ℕ) (at : ℕ) : Said → Type 0 where
+  ends : length reel ≤ at → NextTold reel at end
+  header-cut : at < length reel → (HeaderWhole reel at → ⊥) → NextTold reel at (refused 7 at)
+  no-mark : HeaderWhole reel at → (Marked reel at → ⊥) → NextTold reel at (refused 6 at)
+  refuses : {n : ℕ} → HeaderWhole reel at → Marked reel at → size.Judged (sizeOf reel at) (slopeOf reel at) (size.refused n)
+      → NextTold reel at (refused n at)
+  body-cut : HeaderWhole reel at → Marked reel at → size.Judged (sizeOf reel at) (slopeOf reel at) size.well → (RecordWhole reel at → ⊥)
+      → NextTold reel at (refused 7 at)
+  stands : RecordWhole reel at → Marked reel at → size.Judged (sizeOf reel at) (slopeOf reel at) size.well
+      → NextTold reel at (tile (numberOf reel at) (sizeOf reel at) (slopeOf reel at) (bytesAt at))
+
+-- AFTER. "Records follow each other with no gap": the next mark stands right behind the tile's bytes; where there is no tile, at the place itself
+abbrev pub afterSaid : ℕ → Said → ℕ
+afterSaid at (tile number p l from) = from + tileLength p
+afterSaid at end = at
+afterSaid at (refused n from) = at
+
+pub record AfterTold (reel : List ℕ) (at to : ℕ) : Type 0 where
+  pub said : Said
+  pub told : NextTold reel at said
+  pub is : to ≡ afterSaid at said
+
+-- "as the caller's own bytes, not as a copy": the part holds so many bytes of the whole, from a place on; and unless there are none, it
+-- stands where they stand
+pub record PartOf (whole part : RefT (List ℕ)) (from count : ℕ) : Type 0 where
+  pub holds : now part ≡ take count (drop from (now whole))
+  pub own : (now part ≡ [] → ⊥) → ptr part ≡ (ptr whole .0, from + ptr whole .1)
+
+-- BYTES. "a tile's bytes are handed back as the caller's own bytes, not as a copy"; "where there is no tile, the bytes are an empty part"
+abbrev pub HandsBack : RefT (List ℕ) → Said → RefT (List ℕ) → Type 0
+HandsBack reel (tile number p l from) bytes = PartOf reel bytes from (tileLength p)
+HandsBack reel end bytes = now bytes ≡ []
+HandsBack reel (refused n from) bytes = now bytes ≡ []
+
+pub record BytesTold (reel : RefT (List ℕ)) (at : ℕ) (bytes : RefT (List ℕ)) : Type 0 where
+  pub said : Said
+  pub told : NextTold (now reel) at said
+  pub are : HandsBack reel said bytes
+
+-- REST. "the reel from the next mark on is handed on as it stands"; where there is no tile "the rest begins at the place itself, or is empty
+-- at the end"
+pub record RestTold (reel : RefT (List ℕ)) (at : ℕ) (rest : RefT (List ℕ)) : Type 0 where
+  pub from : ℕ
+  pub told : AfterTold (now reel) at from
+  pub is : PartOf reel rest from (length (now reel) - from)

@@ -1,0 +1,150 @@
+-- A record that is put together reads back as itself, wherever on a reel it stands, and records laid end to end read back in order.
+-- Assumes nothing.
+use mathlib.Core.Path.{_≡_, refl, sym, ap, _∙_, subst}
+use mathlib.Core.List.{List, [], _∷_, _++_}
+use Prim.Native.Nat.{ℕ, zero, suc, _+_, _-_, _/_, _%_, _≤_, _<_}
+use native.Mathlib.Omega.{arith}
+use lib.ListN.{length, take, drop, length-append, length-drop, List·getD-append}
+use lib.Seq.{drop-append-seam, drop-drop, drop-at, take-at, drop-append-le}
+use Rattle.code.specs.Tile.{tileLength, Bytes}
+use Rattle.record.specs.Number.{bigEndian, bigEndianLong}
+use Rattle.size.specs.Answer as size
+use Rattle.reel.specs.Reel.{byteOf, sizeOf, slopeOf, numberOf, RecordWhole}
+use Rattle.reel.specs.Answer.{Said, tile, end}
+use Rattle.reel.specs.Calls.{NextTold, ends, stands}
+use Rattle.reel.specs.Walk.{WalkByPlace}
+use Rattle.reel.specs.Walk as walk
+use Rattle.reel.specs.Part.{part-told}
+use Rattle.reel.specs.Record.{Printed, Fit, RecordOf, Laid, ReadBack}
+use Rattle.reel.specs.Record as put
+
+-- ---- a record is put together
+
+-- what stands before a tile's bytes: each number as its bytes, the high one first
+abbrev header : Printed → List ℕ
+header t =
+    0xD5
+    ∷ 0x5D
+    ∷ t .p / 256
+    ∷ t .p % 256
+    ∷ t .l / 256
+    ∷ t .l % 256
+    ∷ t .number / 16777216
+    ∷ t .number / 65536 % 256
+    ∷ t .number / 256 % 256
+    ∷ t .number % 256
+    ∷ []
+
+abbrev pub made : Printed → List ℕ
+made t = header t ++ t .tile
+
+pub made-record : (t : Printed) → RecordOf t (made t)
+made-record t = record {
+  marked = (refl, refl);
+  size = omega arith;
+  slope = omega arith;
+  number = omega arith;
+  long = length-append (header t) (t .tile);
+  tile = refl;
+}
+
+-- it is of bytes, where the numbers fit their places
+abbrev AllBytes : List ℕ → Type 0
+AllBytes [] = Unit {0}
+AllBytes (x ∷ xs) = (x < 256) × AllBytes xs
+
+all-bytes : (xs ys : List ℕ) → AllBytes xs → Bytes ys → Bytes (xs ++ ys)
+all-bytes [] ys a b k = b k
+all-bytes (x ∷ xs) ys a b zero = a .0
+all-bytes (x ∷ xs) ys a b (suc k) = all-bytes xs ys (a .1) b k
+
+pub made-bytes : (t : Printed) → t .p < 65536 → t .l < 65536 → t .number < 4294967296 → Bytes (t .tile) → Bytes (made t)
+made-bytes t hp hl hn ht =
+    all-bytes (header t) (t .tile) (omega arith) ht
+
+-- ---- a record that stands first
+
+module _ (t : Printed) (bytes behind : List ℕ) (fit : Fit t) (of : RecordOf t bytes) where
+  -- what follows a record changes nothing of what it says
+  same : (n : ℕ) → n < 10 → byteOf (bytes ++ behind) 0 n ≡ byteOf bytes 0 n
+  same n h = List·getD-append bytes behind 0 (0 + n) (omega (arith, of .long))
+
+  says-size : sizeOf (bytes ++ behind) 0 ≡ t .p
+  says-size = (λ i. bigEndian (same 2 (omega arith) i) (same 3 (omega arith) i)) ∙ of .size
+
+  says-slope : slopeOf (bytes ++ behind) 0 ≡ t .l
+  says-slope = (λ i. bigEndian (same 4 (omega arith) i) (same 5 (omega arith) i)) ∙ of .slope
+
+  says-number : numberOf (bytes ++ behind) 0 ≡ t .number
+  says-number = (λ i. bigEndianLong (same 6 (omega arith) i) (same 7 (omega arith) i) (same 8 (omega arith) i) (same 9 (omega arith) i)) ∙ of .number
+
+  long : length bytes ≡ 10 + tileLength (t .p)
+  long = of .long ∙ ap (λ (n : ℕ). 10 + n) (fit .long)
+
+  -- it is answered as that tile ..
+  first-told : NextTold (bytes ++ behind) 0 (tile (t .number) (t .p) (t .l) 10)
+  first-told =
+      let whole : RecordWhole (bytes ++ behind) 0 = omega (arith, length-append bytes behind, long, ap tileLength says-size) in
+      let judged : size.Judged (sizeOf (bytes ++ behind) 0) (slopeOf (bytes ++ behind) 0) size.well = rw (says-size, says-slope) (size.taken (fit .size) (fit .slope)) in
+      let told : NextTold (bytes ++ behind) 0 (tile (numberOf (bytes ++ behind) 0) (sizeOf (bytes ++ behind) 0) (slopeOf (bytes ++ behind) 0) 10) =
+      stands whole (same 0 (omega arith) ∙ of .marked .0, same 1 (omega arith) ∙ of .marked .1) judged in
+      subst (λ (s : Said). NextTold (bytes ++ behind) 0 s) (λ i. tile (says-number i) (says-size i) (says-slope i) 10) told
+
+  -- .. whose bytes stand where the answer says ..
+  first-bytes : take (tileLength (t .p)) (drop 10 (bytes ++ behind)) ≡ t .tile
+  first-bytes =
+      ap (take (tileLength (t .p))) (drop-append-le 10 bytes behind (omega (arith, long)) ∙ ap (λ (x : List ℕ). x ++ behind) (of .tile))
+      ∙ take-at (t .tile) behind (tileLength (t .p)) (fit .long)
+
+  -- .. and behind them what follows
+  first-behind : drop (10 + tileLength (t .p)) (bytes ++ behind) ≡ behind
+  first-behind = drop-at bytes behind (10 + tileLength (t .p)) long
+
+-- ---- wherever it stands
+
+module _ (reel bytes behind : List ℕ) (t : Printed) (at : ℕ) (h : at ≤ length reel) (here : drop at reel ≡ bytes ++ behind) (fit : Fit t) (of : RecordOf t bytes) where
+  pub reads-back : NextTold reel at (tile (t .number) (t .p) (t .l) (at + 10))
+  reads-back = part-told reel at h (subst (λ (x : List ℕ). NextTold x 0 (tile (t .number) (t .p) (t .l) 10)) (sym here) (first-told t bytes behind fit of))
+
+  pub bytes-back : take (tileLength (t .p)) (drop (at + 10) reel) ≡ t .tile
+  bytes-back = ap (take (tileLength (t .p))) (sym (drop-drop 10 at reel) ∙ ap (drop 10) here) ∙ first-bytes t bytes behind fit of
+
+  behind-it : drop (at + 10 + tileLength (t .p)) reel ≡ behind
+  behind-it =
+      ap (λ (n : ℕ). drop n reel) sum ∙ sym (drop-drop (10 + tileLength (t .p)) at reel) ∙ ap (drop (10 + tileLength (t .p))) here ∙ first-behind t bytes behind fit of
+    where
+      sum : at + 10 + tileLength (t .p) ≡ at + (10 + tileLength (t .p))
+      sum = omega arith
+
+  still-within : at + 10 + tileLength (t .p) ≤ length reel
+  still-within = omega (arith, ap length here, length-drop at reel, length-append bytes behind, long t bytes behind fit of)
+
+-- so a record that is put together reads back as itself, whatever stands before it and behind it
+pub made-back : (t : Printed) → Fit t → (before behind : List ℕ)
+    → NextTold (before ++ (made t ++ behind)) (length before) (tile (t .number) (t .p) (t .l) (length before + 10))
+    × (take (tileLength (t .p)) (drop (length before + 10) (before ++ (made t ++ behind))) ≡ t .tile)
+made-back t fit before behind =
+    let reel = before ++ (made t ++ behind) in
+    let h : length before ≤ length reel = omega (arith, length-append before (made t ++ behind)) in
+    let here = drop-append-seam before (made t ++ behind) in
+    (reads-back reel (made t) behind t (length before) h here fit (made-record t), bytes-back reel (made t) behind t (length before) h here fit (made-record t))
+
+-- ---- records laid end to end
+
+-- what a walk from a place lists where from there on records are laid
+abbrev BackFrom : List ℕ → ℕ → List Printed → Type 0
+BackFrom reel at ts = (listed : List Said) × WalkByPlace reel at listed end × ReadBack reel listed ts
+
+back-from : (reel : List ℕ) (ts : List Printed) (left : List ℕ) → Laid ts left → (at : ℕ) → at ≤ length reel → drop at reel ≡ left → BackFrom reel at ts
+back-from reel ts left put.Laid.none at h e = ([], walk.WalkByPlace.stops {at = at} (ends (omega (arith, ap length e, length-drop at reel))) tt, put.ReadBack.none)
+back-from reel ts left (put.Laid.more {t} {bytes} {ts = others} {reel = behind} fit of rest) at h e =
+    let told = reads-back reel bytes behind t at h e fit of in
+    let to = at + 10 + tileLength (t .p) in
+    let others-back = back-from reel others behind rest to (still-within reel bytes behind t at h e fit of) (behind-it reel bytes behind t at h e fit of) in (
+      tile (t .number) (t .p) (t .l) (at + 10) ∷ others-back .0,
+      walk.WalkByPlace.goes-on told (record { said = tile (t .number) (t .p) (t .l) (at + 10); told = told; is = refl }) (others-back .1),
+      put.ReadBack.more (bytes-back reel bytes behind t at h e fit of) (others-back .2),
+    )
+
+pub laid-back : (ts : List Printed) (reel : List ℕ) → Laid ts reel → (listed : List Said) × WalkByPlace reel 0 listed end × ReadBack reel listed ts
+laid-back ts reel laid = back-from reel ts reel laid 0 (omega arith) refl

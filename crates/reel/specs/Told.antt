@@ -1,0 +1,78 @@
+-- What an answer tells of the reel that was asked about. Assumes nothing.
+use mathlib.Core.Path.{_≡_, refl, sym, ap, _∙_}
+use mathlib.Core.Bool.{Bool, true, false}
+use mathlib.Core.List.{List, []}
+use Prim.Native.Nat.{ℕ, _+_, _-_, _<_, _≤_}
+use native.Mathlib.Omega.{arith}
+use lib.Dec.{eqb}
+use lib.ListN.{length, getD, drop, length-drop}
+use lib.Seq.{take-all}
+use denote.Ref.{RefT, now}
+use borrow.Author.Tests.{eqb-true, eqb-false}
+use Rattle.code.specs.Size.{Size, Allowed}
+use Rattle.code.specs.Tile.{tileLength}
+use Rattle.record.specs.Number.{bigEndian}
+use Rattle.size.specs.Answer.{Says, well, Judged}
+use Rattle.size.specs.Told.{judged-well}
+use Rattle.reel.specs.Reel.{byteOf, Marked, sizeOf, slopeOf, numberOf, bytesAt, HeaderWhole, RecordWhole}
+use Rattle.reel.specs.Answer.{Said, tile, end, refused, NoTile}
+use Rattle.reel.specs.Calls.{NextTold, header-cut, no-mark, refuses, body-cut, stands, afterSaid, HandsBack, RestTold}
+
+-- a record has the mark exactly if its first two bytes make that number
+pub mark-says : (reel : List ℕ) (at n : ℕ) → n ≡ bigEndian (getD reel at 0) (byteOf reel at 1) → getD reel at 0 < 256 → byteOf reel at 1 < 256
+    → Says (eqb n 0xD55D) (Marked reel at)
+mark-says reel at n is high low = go (eqb n 0xD55D) refl
+  where
+    first : getD reel at 0 ≡ byteOf reel at 0
+    first = ap (λ (k : ℕ). getD reel k 0) (omega arith)
+
+    go : (t : Bool) → eqb n 0xD55D ≡ t → Says t (Marked reel at)
+    go true e = let q = eqb-true n 0xD55D e in (omega (arith, first), omega arith)
+    go false e = λ m. eqb-false n 0xD55D e (omega (arith, first, m .0, m .1))
+
+-- what the header was read to say stands for what it says: a tile whose bytes are cut short, and one that is whole
+module _ (reel : List ℕ) (at p l count : ℕ) (size : p ≡ sizeOf reel at) (slope : l ≡ slopeOf reel at) (long : count ≡ tileLength p) where
+  pub cut-told : HeaderWhole reel at → Marked reel at → Judged p l well → length reel < at + 10 + count → NextTold reel at (refused 7 at)
+  cut-told h m j c = body-cut h m (rw (size, slope) at j) (λ w. omega (arith, w, sized))
+    where
+      sized : count ≡ tileLength (sizeOf reel at)
+      sized = long ∙ ap tileLength size
+
+  pub stands-told : (number : ℕ) → number ≡ numberOf reel at → Marked reel at → Judged p l well → at + 10 + count ≤ length reel
+      → NextTold reel at (tile number p l (at + 10))
+  stands-told number named m j w =
+      let whole : RecordWhole reel at = omega (arith, long ∙ ap tileLength size) in
+      let told : NextTold reel at (tile (numberOf reel at) (sizeOf reel at) (slopeOf reel at) (bytesAt at)) = stands whole m (rw (size, slope) at j) in
+      rw (sym size, sym slope, sym named) at told
+
+-- a tile's size and slope are taken, and its bytes lie within the reel
+pub tile-taken : {reel : List ℕ} {at number p l from : ℕ} → NextTold reel at (tile number p l from) → Size p × Allowed p l
+tile-taken (stands w m j) = judged-well j
+
+pub tile-within : {reel : List ℕ} {at number p l from : ℕ} → NextTold reel at (tile number p l from) → from + tileLength p ≤ length reel
+tile-within (stands w m j) = w
+
+-- they begin behind the header, which begins at the place
+pub tile-behind : {reel : List ℕ} {at number p l from : ℕ} → NextTold reel at (tile number p l from) → from ≡ at + 10
+tile-behind (stands w m j) = refl
+
+-- where there is no tile, the place behind it is the place itself, and no bytes are handed back
+pub after-stays : (at : ℕ) (said : Said) → NoTile said → at ≡ afterSaid at said
+after-stays at end n = refl
+after-stays at (refused k from) n = refl
+
+pub hands-none : (reel bytes : RefT (List ℕ)) (said : Said) → NoTile said → now bytes ≡ [] → HandsBack reel said bytes
+hands-none reel bytes end n e = e
+hands-none reel bytes (refused k from) n e = e
+
+-- a refusal stays at the record's first byte
+pub refusal-stays : {reel : List ℕ} {at n from : ℕ} → NextTold reel at (refused n from) → from ≡ at
+refusal-stays (header-cut h f) = refl
+refusal-stays (no-mark h f) = refl
+refusal-stays (refuses h m j) = refl
+refusal-stays (body-cut h m j f) = refl
+
+-- the rest is the reel from a place on
+pub rest-drops : (reel rest : RefT (List ℕ)) (at : ℕ) (told : RestTold reel at rest) → now rest ≡ drop (told .from) (now reel)
+rest-drops reel rest at told =
+    told .is .holds ∙ take-all (length (now reel) - told .from) (drop (told .from) (now reel)) (omega (arith, length-drop (told .from) (now reel)))

@@ -1,0 +1,134 @@
+// The reel: tiles on a film, one record behind the other. What stands at a place of it is a tile, the end, or a refusal. A tile's
+// bytes, and the reel behind them, are handed back as parts of the reel that was lent. Offsets count from the reel's first byte.
+pub mod reader;
+
+use size::Judgement;
+use size::Refusal;
+ghost use mathlib.Core.Path.{_≡_};
+ghost use Prim.Native.Nat.{_+_, _≤_};
+ghost use lib.ListN.{length};
+ghost use Rattle.code.specs.Size.{Size};
+ghost use Rattle.code.specs.Tile.{tileLength};
+ghost use Rattle.size.specs.Answer.{Says};
+ghost use Rattle.reel.specs.Reel.{Marked, sizeOf, slopeOf, numberOf};
+ghost use Rattle.reel.specs.Answer.{foundSaid};
+ghost use Rattle.reel.specs.Calls.{NextTold, BytesTold, AfterTold, RestTold};
+
+// A tile on the reel: its number, size and slope, and the offset of its bytes.
+pub struct Tile {
+    pub number: usize,
+    pub p: usize,
+    pub l: usize,
+    pub at: usize,
+}
+
+// What stands at a place: a tile, the end, or a refusal with the offset of the faulty record's first byte.
+pub enum Found {
+    Tile(Tile),
+    End,
+    Refused(Refusal, usize),
+}
+
+// The mark that each record begins with, as a number of two bytes, and how many bytes stand before the tile's.
+const MARK: usize = 0xD55D;
+
+const HEADER: usize = 10;
+
+// What stands before a tile's bytes, and whether it has the mark.
+struct Header {
+    marked: bool,
+    p: usize,
+    l: usize,
+    number: usize,
+}
+
+// The header of the record at a place, taken apart. Here alone the code knows how a record is laid out.
+fn header_at(reel: &[u8], at: usize) -> Header
+    requires { ⌜ at + 10 ≤ length (now reel) ⌝ }
+    ensures { λ r. ⌜ Says (r .marked) (Marked (now (reel .entry)) at) ⌝ }
+    ensures { λ r. ⌜ (r .p ≡ sizeOf (now (reel .entry)) at) × (r .l ≡ slopeOf (now (reel .entry)) at) ⌝ }
+    ensures { λ r. ⌜ r .number ≡ numberOf (now (reel .entry)) at ⌝ }
+{
+    Header {
+        marked: record::number(reel[at], reel[at + 1]) == MARK,
+        p: record::number(reel[at + 2], reel[at + 3]),
+        l: record::number(reel[at + 4], reel[at + 5]),
+        number: record::long_number(reel[at + 6], reel[at + 7], reel[at + 8], reel[at + 9]),
+    }
+}
+
+// How many bytes a tile of size p has.
+fn tile_length(p: usize) -> usize
+    requires { ⌜ Size p ⌝ }
+    ensures { λ r. ⌜ r ≡ tileLength p ⌝ }
+{
+    (p - 1) * (p - 1)
+}
+
+// What stands at a place. A record is refused with 7 for its header, 6, 1, 2, and 7 for its body, in this order.
+pub fn next(reel: &[u8], at: usize) -> Found
+    ensures { λ r. ⌜ NextTold (now (reel .entry)) at (foundSaid r) ⌝ }
+{
+    if reel.len() <= at {
+        return Found::End;
+    }
+    if reel.len() - at < HEADER {
+        return Found::Refused(Refusal::CutShort, at);
+    }
+    let header = header_at(reel, at);
+    if !header.marked {
+        return Found::Refused(Refusal::BadMark, at);
+    }
+    let p = header.p;
+    let l = header.l;
+    match size::judge(p, l) {
+        Judgement::Refused(refusal) => Found::Refused(refusal, at),
+        Judgement::Taken => {
+            let bytes = at + HEADER;
+            if reel.len() - bytes < tile_length(p) {
+                Found::Refused(Refusal::CutShort, at)
+            } else {
+                Found::Tile(Tile {
+                    number: header.number,
+                    p,
+                    l,
+                    at: bytes,
+                })
+            }
+        }
+    }
+}
+
+// The bytes of the tile at a place; where there is none, no bytes.
+pub fn bytes(reel: &[u8], at: usize) -> &[u8]
+    ensures { λ r. ⌜ BytesTold (reel .entry) at r ⌝ }
+{
+    let Found::Tile(tile) = next(reel, at) else {
+        return &reel[..0];
+    };
+    let start = tile.at;
+    let end = start + tile_length(tile.p);
+    &reel[start..end]
+}
+
+// The place of the next mark, right behind the bytes of the tile at a place; where there is none, the place itself.
+pub fn after(reel: &[u8], at: usize) -> usize
+    ensures { λ r. ⌜ AfterTold (now (reel .entry)) at r ⌝ }
+{
+    let Found::Tile(tile) = next(reel, at) else {
+        return at;
+    };
+    tile.at + tile_length(tile.p)
+}
+
+// The reel from the next mark on. A walk hands it to `next`, at place 0.
+pub fn rest(reel: &[u8], at: usize) -> &[u8]
+    ensures { λ r. ⌜ RestTold (reel .entry) at r ⌝ }
+{
+    let start = after(reel, at);
+    if start <= reel.len() {
+        &reel[start..]
+    } else {
+        &reel[..0]
+    }
+}
