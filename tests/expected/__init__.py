@@ -1,1 +1,2 @@
-"""What the program `worked` has to print, part by part. Each part works its lines out from document 01, never from the program."""
+"""What the programs `worked` and `list` have to print, part by part. Each part works its lines out from document 01, never from a
+program."""

@@ -7,7 +7,7 @@ is asserted each time. Writing is filling the two check columns, and repair is f
 
 A line is a pair, ("row", r) or ("column", c). An answer is the text that the program prints for it."""
 
-from functools import cache
+from functools import cache, lru_cache
 
 from expected.sizes import verdict
 
@@ -17,7 +17,7 @@ def place(p, i, j):
     return i * (p - 1) + j
 
 
-@cache
+@lru_cache(maxsize=16)  # of a large tile they take megabytes
 def cells_of_lines(p, s):
     """For each line of slope s, the places of its cells. The cells of the added row and column are left out: they hold zero."""
     lines = [[] for _ in range(p)]
@@ -38,9 +38,14 @@ def sums(p, s, tile):
     return result
 
 
+def both_sums(p, l, tile):
+    """All 2p sums: those of slope 1, then those of slope l."""
+    return sums(p, 1, tile) + sums(p, l, tile)
+
+
 def is_good(p, l, tile):
     """All 2p sums equal one byte."""
-    return len(set(sums(p, 1, tile) + sums(p, l, tile))) == 1
+    return len(set(both_sums(p, l, tile))) == 1
 
 
 @cache
@@ -52,19 +57,17 @@ def places(p, line):
     return [place(p, i, n) for i in range(p - 1)]
 
 
-@cache
+@lru_cache(maxsize=600)  # more than the largest tile has lines
 def coefficients(p, l, lines):
-    """The left sides of the 2p equations, as bits: bit 0 for the common byte, and one bit for each flagged cell. With each the places
-    of the cells that are not flagged, whose sum is the right side; and the flagged places in the order of their bits."""
+    """The left sides of the 2p equations, those of slope 1 and then those of slope l, as bits: bit 0 for the common byte, and one bit
+    for each flagged cell. With each the flagged places on its line; and all flagged places in the order of their bits."""
     flagged = sorted({k for line in lines for k in places(p, line)})
-    bit = {k: n + 1 for n, k in enumerate(flagged)}
-    equations = []
-    for cells in cells_of_lines(p, 1) + cells_of_lines(p, l):
-        left = 1
-        for k in cells:
-            if k in bit:
-                left |= 1 << bit[k]
-        equations.append((left, [k for k in cells if k not in bit]))
+    equations = [(1, []) for _ in range(2 * p)]
+    for n, k in enumerate(flagged, start=1):
+        i, j = divmod(k, p - 1)
+        for t in ((i + j) % p, p + (i + l * j) % p):
+            left, cells = equations[t]
+            equations[t] = (left | 1 << n, cells + [k])
     return equations, flagged
 
 
@@ -102,10 +105,15 @@ def back_substituted(pivots, unknowns):
 
 def filling(p, l, tile, *lines):
     """The one good tile that agrees with the tile outside the lines, or None."""
+    return filling_of_sums(p, l, tile, both_sums(p, l, tile), lines)
+
+
+def filling_of_sums(p, l, tile, totals, lines):
+    """The same for a tile whose 2p sums are known. The right side of an equation is the sum of the cells that are not flagged: the
+    line's sum with the flagged bytes taken off."""
     equations, flagged = coefficients(p, l, lines)
     known = []
-    for left, cells in equations:
-        right = 0
+    for (left, cells), right in zip(equations, totals, strict=True):
         for k in cells:
             right ^= tile[k]
         known.append((left, right))
@@ -170,9 +178,10 @@ def repair(p, l, tile):
         return no, tile
     if is_good(p, l, tile):
         return "clean", tile
+    totals = both_sums(p, l, tile)  # once, not for each line: a large tile has 500 of them
     for kind in ("column", "row"):
         for n in range(p - 1):
-            repaired = filling(p, l, tile, (kind, n))
+            repaired = filling_of_sums(p, l, tile, totals, ((kind, n),))
             if repaired is not None:
                 return f"{kind} {n}", repaired
     return "refused 5", tile

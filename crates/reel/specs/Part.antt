@@ -9,7 +9,7 @@ use lib.Seq.{getD-drop}
 use Rattle.code.specs.Tile.{tileLength}
 use Rattle.record.specs.Number.{bigEndian, bigEndianLong}
 use Rattle.size.specs.Answer as size
-use Rattle.reel.specs.Reel.{byteOf, Marked, sizeOf, slopeOf, numberOf, HeaderWhole, RecordWhole}
+use Rattle.reel.specs.Reel.{byteOf, Marked, sizeOf, slopeOf, numberOf, bytesAt, HeaderWhole, RecordWhole}
 use Rattle.reel.specs.Answer.{Said, tile, refused}
 use Rattle.reel.specs.Calls.{NextTold, ends, header-cut, no-mark, refuses, body-cut, stands}
 use Rattle.reel.specs.Walk.{shifted}
@@ -62,5 +62,5 @@ module _ (reel : List ℕ) (at : ℕ) (h : at ≤ length reel) where
   part-told (refuses w m j) = refused-at (refuses (header-part w) (part-marked m) (part-judged j))
   part-told (body-cut w m j f) = refused-at (body-cut (header-part w) (part-marked m) (part-judged j) (λ c. f (whole-part c)))
   part-told (stands w m j) =
-      subst (λ (s : Said). NextTold reel at s) (λ i. tile (sym part-number i) (sym part-size i) (sym part-slope i) (at + 10))
+      subst (λ (s : Said). NextTold reel at s) (λ i. tile (sym part-number i) (sym part-size i) (sym part-slope i) (bytesAt at))
       (stands (part-whole w) (part-marked m) (part-judged j))

@@ -9,7 +9,7 @@ use lib.Seq.{drop-append-seam, drop-drop, drop-at, take-at, drop-append-le}
 use Rattle.code.specs.Tile.{tileLength, Bytes}
 use Rattle.record.specs.Number.{bigEndian, bigEndianLong}
 use Rattle.size.specs.Answer as size
-use Rattle.reel.specs.Reel.{byteOf, sizeOf, slopeOf, numberOf, RecordWhole}
+use Rattle.reel.specs.Reel.{byteOf, sizeOf, slopeOf, numberOf, bytesAt, RecordWhole}
 use Rattle.reel.specs.Answer.{Said, tile, end}
 use Rattle.reel.specs.Calls.{NextTold, ends, stands}
 use Rattle.reel.specs.Walk.{WalkByPlace}
@@ -66,7 +66,7 @@ made-bytes t hp hl hn ht =
 
 module _ (t : Printed) (bytes behind : List ℕ) (fit : Fit t) (of : RecordOf t bytes) where
   -- what follows a record changes nothing of what it says
-  same : (n : ℕ) → n < 10 → byteOf (bytes ++ behind) 0 n ≡ byteOf bytes 0 n
+  same : (n : ℕ) → n < bytesAt 0 → byteOf (bytes ++ behind) 0 n ≡ byteOf bytes 0 n
   same n h = List·getD-append bytes behind 0 (0 + n) (omega (arith, of .long))
 
   says-size : sizeOf (bytes ++ behind) 0 ≡ t .p
@@ -78,51 +78,51 @@ module _ (t : Printed) (bytes behind : List ℕ) (fit : Fit t) (of : RecordOf t 
   says-number : numberOf (bytes ++ behind) 0 ≡ t .number
   says-number = (λ i. bigEndianLong (same 6 (omega arith) i) (same 7 (omega arith) i) (same 8 (omega arith) i) (same 9 (omega arith) i)) ∙ of .number
 
-  long : length bytes ≡ 10 + tileLength (t .p)
-  long = of .long ∙ ap (λ (n : ℕ). 10 + n) (fit .long)
+  long : length bytes ≡ bytesAt 0 + tileLength (t .p)
+  long = of .long ∙ ap (λ (n : ℕ). bytesAt 0 + n) (fit .long)
 
   -- it is answered as that tile ..
-  first-told : NextTold (bytes ++ behind) 0 (tile (t .number) (t .p) (t .l) 10)
+  first-told : NextTold (bytes ++ behind) 0 (tile (t .number) (t .p) (t .l) (bytesAt 0))
   first-told =
       let whole : RecordWhole (bytes ++ behind) 0 = omega (arith, length-append bytes behind, long, ap tileLength says-size) in
       let judged : size.Judged (sizeOf (bytes ++ behind) 0) (slopeOf (bytes ++ behind) 0) size.well = rw (says-size, says-slope) (size.taken (fit .size) (fit .slope)) in
-      let told : NextTold (bytes ++ behind) 0 (tile (numberOf (bytes ++ behind) 0) (sizeOf (bytes ++ behind) 0) (slopeOf (bytes ++ behind) 0) 10) =
+      let told : NextTold (bytes ++ behind) 0 (tile (numberOf (bytes ++ behind) 0) (sizeOf (bytes ++ behind) 0) (slopeOf (bytes ++ behind) 0) (bytesAt 0)) =
       stands whole (same 0 (omega arith) ∙ of .marked .0, same 1 (omega arith) ∙ of .marked .1) judged in
-      subst (λ (s : Said). NextTold (bytes ++ behind) 0 s) (λ i. tile (says-number i) (says-size i) (says-slope i) 10) told
+      subst (λ (s : Said). NextTold (bytes ++ behind) 0 s) (λ i. tile (says-number i) (says-size i) (says-slope i) (bytesAt 0)) told
 
   -- .. whose bytes stand where the answer says ..
-  first-bytes : take (tileLength (t .p)) (drop 10 (bytes ++ behind)) ≡ t .tile
+  first-bytes : take (tileLength (t .p)) (drop (bytesAt 0) (bytes ++ behind)) ≡ t .tile
   first-bytes =
-      ap (take (tileLength (t .p))) (drop-append-le 10 bytes behind (omega (arith, long)) ∙ ap (λ (x : List ℕ). x ++ behind) (of .tile))
+      ap (take (tileLength (t .p))) (drop-append-le (bytesAt 0) bytes behind (omega (arith, long)) ∙ ap (λ (x : List ℕ). x ++ behind) (of .tile))
       ∙ take-at (t .tile) behind (tileLength (t .p)) (fit .long)
 
   -- .. and behind them what follows
-  first-behind : drop (10 + tileLength (t .p)) (bytes ++ behind) ≡ behind
-  first-behind = drop-at bytes behind (10 + tileLength (t .p)) long
+  first-behind : drop (bytesAt 0 + tileLength (t .p)) (bytes ++ behind) ≡ behind
+  first-behind = drop-at bytes behind (bytesAt 0 + tileLength (t .p)) long
 
 -- ---- wherever it stands
 
 module _ (reel bytes behind : List ℕ) (t : Printed) (at : ℕ) (h : at ≤ length reel) (here : drop at reel ≡ bytes ++ behind) (fit : Fit t) (of : RecordOf t bytes) where
-  pub reads-back : NextTold reel at (tile (t .number) (t .p) (t .l) (at + 10))
-  reads-back = part-told reel at h (subst (λ (x : List ℕ). NextTold x 0 (tile (t .number) (t .p) (t .l) 10)) (sym here) (first-told t bytes behind fit of))
+  pub reads-back : NextTold reel at (tile (t .number) (t .p) (t .l) (bytesAt at))
+  reads-back = part-told reel at h (subst (λ (x : List ℕ). NextTold x 0 (tile (t .number) (t .p) (t .l) (bytesAt 0))) (sym here) (first-told t bytes behind fit of))
 
-  pub bytes-back : take (tileLength (t .p)) (drop (at + 10) reel) ≡ t .tile
-  bytes-back = ap (take (tileLength (t .p))) (sym (drop-drop 10 at reel) ∙ ap (drop 10) here) ∙ first-bytes t bytes behind fit of
+  pub bytes-back : take (tileLength (t .p)) (drop (bytesAt at) reel) ≡ t .tile
+  bytes-back = ap (take (tileLength (t .p))) (sym (drop-drop (bytesAt 0) at reel) ∙ ap (drop (bytesAt 0)) here) ∙ first-bytes t bytes behind fit of
 
-  behind-it : drop (at + 10 + tileLength (t .p)) reel ≡ behind
+  behind-it : drop (bytesAt at + tileLength (t .p)) reel ≡ behind
   behind-it =
-      ap (λ (n : ℕ). drop n reel) sum ∙ sym (drop-drop (10 + tileLength (t .p)) at reel) ∙ ap (drop (10 + tileLength (t .p))) here ∙ first-behind t bytes behind fit of
+      ap (λ (n : ℕ). drop n reel) sum ∙ sym (drop-drop (bytesAt 0 + tileLength (t .p)) at reel) ∙ ap (drop (bytesAt 0 + tileLength (t .p))) here ∙ first-behind t bytes behind fit of
     where
-      sum : at + 10 + tileLength (t .p) ≡ at + (10 + tileLength (t .p))
+      sum : bytesAt at + tileLength (t .p) ≡ at + (bytesAt 0 + tileLength (t .p))
       sum = omega arith
 
-  still-within : at + 10 + tileLength (t .p) ≤ length reel
+  still-within : bytesAt at + tileLength (t .p) ≤ length reel
   still-within = omega (arith, ap length here, length-drop at reel, length-append bytes behind, long t bytes behind fit of)
 
 -- so a record that is put together reads back as itself, whatever stands before it and behind it
 pub made-back : (t : Printed) → Fit t → (before behind : List ℕ)
-    → NextTold (before ++ (made t ++ behind)) (length before) (tile (t .number) (t .p) (t .l) (length before + 10))
-    × (take (tileLength (t .p)) (drop (length before + 10) (before ++ (made t ++ behind))) ≡ t .tile)
+    → NextTold (before ++ (made t ++ behind)) (length before) (tile (t .number) (t .p) (t .l) (bytesAt (length before)))
+    × (take (tileLength (t .p)) (drop (bytesAt (length before)) (before ++ (made t ++ behind))) ≡ t .tile)
 made-back t fit before behind =
     let reel = before ++ (made t ++ behind) in
     let h : length before ≤ length reel = omega (arith, length-append before (made t ++ behind)) in
@@ -139,10 +139,10 @@ back-from : (reel : List ℕ) (ts : List Printed) (left : List ℕ) → Laid ts 
 back-from reel ts left put.Laid.none at h e = ([], walk.WalkByPlace.stops {at = at} (ends (omega (arith, ap length e, length-drop at reel))) tt, put.ReadBack.none)
 back-from reel ts left (put.Laid.more {t} {bytes} {ts = others} {reel = behind} fit of rest) at h e =
     let told = reads-back reel bytes behind t at h e fit of in
-    let to = at + 10 + tileLength (t .p) in
+    let to = bytesAt at + tileLength (t .p) in
     let others-back = back-from reel others behind rest to (still-within reel bytes behind t at h e fit of) (behind-it reel bytes behind t at h e fit of) in (
-      tile (t .number) (t .p) (t .l) (at + 10) ∷ others-back .0,
-      walk.WalkByPlace.goes-on told (record { said = tile (t .number) (t .p) (t .l) (at + 10); told = told; is = refl }) (others-back .1),
+      tile (t .number) (t .p) (t .l) (bytesAt at) ∷ others-back .0,
+      walk.WalkByPlace.goes-on told (record { said = tile (t .number) (t .p) (t .l) (bytesAt at); told = told; is = refl }) (others-back .1),
       put.ReadBack.more (bytes-back reel bytes behind t at h e fit of) (others-back .2),
     )
 

@@ -32,14 +32,14 @@ mark-says reel at n is high low = go (eqb n 0xD55D) refl
 
 -- what the header was read to say stands for what it says: a tile whose bytes are cut short, and one that is whole
 module _ (reel : List ℕ) (at p l count : ℕ) (size : p ≡ sizeOf reel at) (slope : l ≡ slopeOf reel at) (long : count ≡ tileLength p) where
-  pub cut-told : HeaderWhole reel at → Marked reel at → Judged p l well → length reel < at + 10 + count → NextTold reel at (refused 7 at)
+  pub cut-told : HeaderWhole reel at → Marked reel at → Judged p l well → length reel < bytesAt at + count → NextTold reel at (refused 7 at)
   cut-told h m j c = body-cut h m (rw (size, slope) at j) (λ w. omega (arith, w, sized))
     where
       sized : count ≡ tileLength (sizeOf reel at)
       sized = long ∙ ap tileLength size
 
-  pub stands-told : (number : ℕ) → number ≡ numberOf reel at → Marked reel at → Judged p l well → at + 10 + count ≤ length reel
-      → NextTold reel at (tile number p l (at + 10))
+  pub stands-told : (number : ℕ) → number ≡ numberOf reel at → Marked reel at → Judged p l well → bytesAt at + count ≤ length reel
+      → NextTold reel at (tile number p l (bytesAt at))
   stands-told number named m j w =
       let whole : RecordWhole reel at = omega (arith, long ∙ ap tileLength size) in
       let told : NextTold reel at (tile (numberOf reel at) (sizeOf reel at) (slopeOf reel at) (bytesAt at)) = stands whole m (rw (size, slope) at j) in
@@ -53,7 +53,7 @@ pub tile-within : {reel : List ℕ} {at number p l from : ℕ} → NextTold reel
 tile-within (stands w m j) = w
 
 -- they begin behind the header, which begins at the place
-pub tile-behind : {reel : List ℕ} {at number p l from : ℕ} → NextTold reel at (tile number p l from) → from ≡ at + 10
+pub tile-behind : {reel : List ℕ} {at number p l from : ℕ} → NextTold reel at (tile number p l from) → from ≡ bytesAt at
 tile-behind (stands w m j) = refl
 
 -- where there is no tile, the place behind it is the place itself, and no bytes are handed back

@@ -5,12 +5,10 @@ pub mod reader;
 use size::Judgement;
 use size::Refusal;
 ghost use mathlib.Core.Path.{_≡_};
-ghost use Prim.Native.Nat.{_+_, _≤_};
-ghost use lib.ListN.{length};
 ghost use Rattle.code.specs.Size.{Size};
 ghost use Rattle.code.specs.Tile.{tileLength};
 ghost use Rattle.size.specs.Answer.{Says};
-ghost use Rattle.reel.specs.Reel.{Marked, sizeOf, slopeOf, numberOf};
+ghost use Rattle.reel.specs.Reel.{HeaderWhole, Marked, sizeOf, slopeOf, numberOf};
 ghost use Rattle.reel.specs.Answer.{foundSaid};
 ghost use Rattle.reel.specs.Calls.{NextTold, BytesTold, AfterTold, RestTold};
 
@@ -44,7 +42,7 @@ struct Header {
 
 // The header of the record at a place, taken apart. Here alone the code knows how a record is laid out.
 fn header_at(reel: &[u8], at: usize) -> Header
-    requires { ⌜ at + 10 ≤ length (now reel) ⌝ }
+    requires { ⌜ HeaderWhole (now reel) at ⌝ }
     ensures { λ r. ⌜ Says (r .marked) (Marked (now (reel .entry)) at) ⌝ }
     ensures { λ r. ⌜ (r .p ≡ sizeOf (now (reel .entry)) at) × (r .l ≡ slopeOf (now (reel .entry)) at) ⌝ }
     ensures { λ r. ⌜ r .number ≡ numberOf (now (reel .entry)) at ⌝ }

@@ -1,0 +1,70 @@
+"""The fields of a record's header: each size, each slope, tile numbers, and the largest sizes."""
+
+from random import Random
+
+from expected.reel import LONGEST, record
+from expected.reels.made import DAMAGE, Case, damaged, good, hurt, one_byte_hurt
+from expected.sizes import HOUSE, SIZES, SLOPES
+from expected.tile import tile_length
+
+LARGEST = 251  # the largest size that fits: 62,510 bytes
+
+
+def each_size():
+    """One tile of each size that fits, at its house slope: whole, with a hurt column, a hurt row and a hurt byte."""
+    for p in SIZES[:-1]:
+        l, byte = HOUSE[p], tile_length(p) // 3
+        tiles = (
+            ("whole", good(p, l), "clean"),
+            ("a column", damaged("a column", p, l), f"column {p // 2}"),
+            ("a row", damaged("a row", p, l), f"row {p // 3}"),
+            ("a byte", one_byte_hurt(good(p, l), byte), f"column {byte % (p - 1)}"),
+        )
+        for name, tile, answer in tiles:
+            yield Case(f"size {p}, {name}", record(p, p, l, tile), f"{p} {p} {l} {answer}\nend 1")
+
+
+def each_slope():
+    """Every slope that is allowed at 11, and at 31, with each kind of damage on one reel."""
+    for p in (11, 31):
+        for l in SLOPES[p]:
+            reel = b"".join(record(n, p, l, damaged(kind, p, l)) for n, kind in enumerate(DAMAGE))
+            yield Case(f"slope {l} at {p}", reel, f"5 {p} {l} refused 5\nend {len(DAMAGE)}")
+    assert SLOPES[11] == [2, 6, 7, 8]
+
+
+def largest():
+    """The largest size that fits: a hurt line whose number has one, two and three digits, and tiles that no line explains."""
+    p, l = LARGEST, HOUSE[LARGEST]
+    for n in (0, 9, 10, 99, 100, 249):
+        for kind in ("column", "row"):
+            reel = record(n, p, l, hurt(good(p, l), p, (kind, n)))
+            yield Case(f"{kind} {n} at {p}", reel, f"{n} {p} {l} {kind} {n}\nend 1")
+    for kind in ("two columns", "two rows", "a row with a column"):
+        yield Case(f"{kind} at {p}", record(1, p, l, damaged(kind, p, l)), f"1 {p} {l} refused 5\nend 1")
+    garbage = Random(251).randbytes(tile_length(p))
+    yield Case(f"garbage at {p}", record(1, p, l, garbage), f"1 {p} {l} refused 5\nend 1")
+    yield Case(f"garbage at {p}, and a byte", record(1, p, l, garbage) + b"\xd5", "stopped 7 62510")
+
+
+def above_largest():
+    """A header of size 257 has never enough bytes behind it here."""
+    header = record(1, 257, 3, b"")
+    for behind in (0, 1, 16, 1000, LONGEST - len(header)):
+        yield Case(f"size 257 with {behind} bytes", header + bytes(behind), "stopped 7 0")
+    yield Case("size 257 behind a tile", record(1, 5, 2, bytes(16)) + header + bytes(99), "1 5 2 clean\nstopped 7 26")
+    yield Case("size 257 with slope 2", record(1, 257, 2, bytes(9)), "stopped 2 0")
+
+
+def numbers():
+    """Tile numbers at the edges of their four bytes and of their decimal digits, and numbers that repeat."""
+    edges = [0, 1, 255, 256, 65535, 65536, 0x01020304, 0x7FFFFFFF, 0x80000000, 0xFFFFFFFE, 0xFFFFFFFF]
+    digits = [n for power in range(1, 10) for n in (10**power - 1, 10**power)]
+    for n in edges + digits:
+        yield Case(f"number {n}", record(n, 5, 2, bytes(16)), f"{n} 5 2 clean\nend 1")
+    lines = [f"{n} 5 2 clean" for n in edges + digits]
+    reel = b"".join(record(n, 5, 2, bytes(16)) for n in edges + digits)
+    yield Case("all these numbers", reel, "\n".join([*lines, f"end {len(lines)}"]))
+    repeated = record(7, 5, 2, bytes(16)) * 3 + record(8, 7, 3, bytes(36)) + record(7, 7, 3, bytes(36)) * 2
+    said = "7 5 2 clean\n" * 3 + "8 7 3 clean\n" + "7 7 3 clean\n" * 2 + "end 6"
+    yield Case("repeated numbers", repeated, said)

@@ -1,0 +1,62 @@
+"""Reels in which nothing is right, or nothing behind a right mark or header."""
+
+from random import Random
+
+from expected.reel import HEADER, MARK, WHOLE_CASE, record
+from expected.reels.made import Case, joined
+from expected.sizes import HOUSE
+from expected.tile import tile_length
+
+LENGTHS = (*range(1, 41), 100, 255, 256, 257, 1000, 4095, 4096, 4097, 10000, 32768, 65535, 65536, 65537)
+REPEATED = ("FF", "00", "D5", "5D", "D5 5D", "5D D5", "C3 3C")
+
+
+def no_mark():
+    """Pseudo-random bytes of many lengths."""
+    drawn = Random(1)
+    for length in LENGTHS:
+        for attempt in range(3):
+            reel = drawn.randbytes(length)
+            yield Case(f"{length} pseudo-random bytes, {attempt}", reel, ends_without_mark(length))
+
+
+def ends_without_mark(length):
+    """How a listing ends for bytes that begin with no mark."""
+    return "too long" if length > 65536 else "stopped 7 0" if length < HEADER else "stopped 6 0"
+
+
+def repeated():
+    """One or two bytes repeated."""
+    for repeat in REPEATED:
+        some = bytes.fromhex(repeat)
+        for length in LENGTHS:
+            reel = (some * length)[:length]
+            # Behind the mark repeated, the size is D55D hex.
+            ends = "stopped 1 0" if some == MARK and HEADER <= length <= 65536 else ends_without_mark(length)
+            yield Case(f"{length} bytes {repeat}", reel, ends)
+
+
+def complemented():
+    """Sound reels with every byte complemented."""
+    reels = {"the whole case": WHOLE_CASE, "five records": joined([5, 7, 11, 13, 47]), "the largest": joined([251])}
+    for name, reel in reels.items():
+        yield Case(f"{name}, complemented", bytes(255 - byte for byte in reel), "stopped 6 0")
+
+
+def behind_a_mark():
+    """Pseudo-random bytes behind a right mark, and a right size."""
+    drawn = Random(2)
+    for attempt in range(40):
+        yield Case(f"a mark and pseudo-random bytes, {attempt}", MARK + drawn.randbytes(98))
+        yield Case(f"a mark, a size and pseudo-random bytes, {attempt}", MARK + b"\x00\x05" + drawn.randbytes(96))
+
+
+def behind_headers():
+    """Right headers, and pseudo-random bytes for tiles; once of all values, once of bits alone."""
+    drawn = Random(3)
+    for p in (5, 7, 11, 13, 17, 31, 101):
+        for attempt in range(3):
+            tiles = [drawn.randbytes(tile_length(p)) for _ in range(5)]
+            for name, kept in (("bytes", 0xFF), ("bits", 0x01)):
+                reel = b"".join(record(n, p, HOUSE[p], [byte & kept for byte in tile]) for n, tile in enumerate(tiles))
+                yield Case(f"pseudo-random {name} in tiles of size {p}, {attempt}", reel, "end 5")

@@ -1,0 +1,84 @@
+"""Reels by their length: the empty one, one cut short at every place, and those at and above the most that `list` takes."""
+
+from expected.reel import HEADER, LONGEST, WHOLE_CASE, WHOLE_LISTING, record
+from expected.reels.made import Case, good, joined, record_length
+from expected.sizes import HOUSE, SIZES
+
+# Which sizes come first on a reel of 65,536 bytes that ends well. Sizes 5 and 7 follow.
+MOST = {
+    "the largest first": (251,),
+    "two large ones first": (181, 179),
+    "each size up to 59 first": SIZES[: SIZES.index(59) + 1],
+    "small sizes alone": (),
+}
+
+
+def sizes_for(total, *first):
+    """Sizes whose records have so many bytes together: the first ones as given, then 7 and 5 as often as it takes."""
+    left = total - sum(map(record_length, first))
+    for sevens in range(left // record_length(7) + 1):
+        fives, over = divmod(left - sevens * record_length(7), record_length(5))
+        if over == 0:
+            return [*first, *[7] * sevens, *[5] * fives]
+    raise ValueError(f"no records have {total} bytes together")
+
+
+def filled(total):
+    """A sound reel of so many bytes."""
+    reel = joined(sizes_for(total))
+    assert len(reel) == total
+    return reel
+
+
+def short_reels():
+    """The whole case of document 01, the empty reel, and one record cut after each byte of its header and before its last byte."""
+    yield Case("the whole case", WHOLE_CASE, WHOLE_LISTING.rstrip("\n"))
+    yield Case("empty", b"", "end 0")
+    yield Case("one byte 00", b"\x00", "stopped 7 0")
+    yield Case("one byte D5", b"\xd5", "stopped 7 0")
+    one = record(7, 5, 2, good(5, 2))
+    for length in range(1, HEADER):
+        yield Case(f"{length} bytes of a header", one[:length], "stopped 7 0")
+    yield Case("a header alone", one[:10], "stopped 7 0")
+    yield Case("25 bytes of a record", one[:25], "stopped 7 0")
+    yield Case("26 bytes of a record", one[:26], "7 5 2 clean\nend 1")
+
+
+def every_cut():
+    """Three records, cut at every length."""
+    reel = joined([5, 7, 5])
+    ends = {0: "end 0", 26: "end 1", 72: "end 2", 98: "end 3"}  # the lengths at which a record ends
+    assert len(reel) == 98
+    for length in range(99):
+        start = max(end for end in ends if end <= length)
+        yield Case(f"three records cut to {length} bytes", reel[:length], ends.get(length, f"stopped 7 {start}"))
+
+
+def most_bytes():
+    """Exactly as many bytes as are taken, or a few less: reels that end well, and reels that end in a refusal."""
+    for name, first in MOST.items():
+        sizes = sizes_for(LONGEST, *first)
+        yield Case(f"65536 bytes, {name}", joined(sizes), f"end {len(sizes)}")
+    last = record(9, 251, HOUSE[251], good(251, HOUSE[251]))
+    yield Case("65536 bytes, the largest last", filled(LONGEST - len(last)) + last, "9 251 6 clean\nend 112")
+    fives = joined([5] * 2520)
+    yield Case("65536 bytes, zeros behind 2520 tiles", fives + bytes(16), "stopped 6 65520")
+    yield Case("65536 bytes, a body cut short", fives + record(1, 5, 2, bytes(6)), "stopped 7 65520")
+    yield Case("65529 bytes, a header cut short", fives + record(1, 5, 2, b"")[:9], "stopped 7 65520")
+    yield Case("65535 bytes", filled(LONGEST)[:-1], "stopped 7 65510")
+
+
+def too_long():
+    """More bytes than are taken: nothing is listed, whatever they are."""
+    sound = filled(LONGEST)
+    reels = {
+        "65537 bytes, a sound reel and 00": sound + b"\x00",
+        "65537 bytes, a sound reel and D5": sound + b"\xd5",
+        "65537 bytes, zeros": bytes(65537),
+        "65538 bytes, a sound reel": filled(65538),
+        "65538 bytes, zeros": bytes(65538),
+        "65546 bytes, a record of size 257": record(1, 257, 3, bytes(65536)),
+        "200000 bytes, a sound reel": filled(200000),
+        "200000 bytes, zeros": bytes(200000),
+    }
+    return [Case(name, reel, "too long") for name, reel in reels.items()]

@@ -1,0 +1,66 @@
+"""What the cases about reels are made of: tiles with each kind of damage, records of them, and named reels."""
+
+from functools import cache
+from typing import NamedTuple
+
+from expected.hurt import changed
+from expected.lost import written_from
+from expected.reel import HEADER, record
+from expected.sizes import HOUSE
+from expected.tile import tile_length
+
+
+class Case(NamedTuple):
+    """A reel with a name. What its listing ends with is said where the reel was made for that; the whole listing is worked out from
+    the reel each time."""
+
+    name: str
+    reel: bytes
+    ends: str | None = None
+
+
+# For each kind of damage the lines of a tile of size p that are hurt.
+DAMAGE = {
+    "nothing": lambda p: (),
+    "a column": lambda p: (("column", p // 2),),
+    "a row": lambda p: (("row", p // 3),),
+    "two columns": lambda p: (("column", 0), ("column", p - 2)),
+    "two rows": lambda p: (("row", 1), ("row", p - 3)),
+    "a row with a column": lambda p: (("row", p - 2), ("column", 1)),
+}
+
+
+@cache
+def good(p, l, seed=1):
+    """A tile written from pseudo-random text."""
+    return bytes(written_from(p, l, seed)[0])
+
+
+def hurt(tile, p, *lines):
+    """The tile with every byte of the lines changed."""
+    for seed, line in enumerate(lines, start=1):
+        tile = changed(p, tile, line, seed)
+    return bytes(tile)
+
+
+def one_byte_hurt(tile, k, change=0x41):
+    """The tile with its k-th byte changed."""
+    return tile[:k] + bytes([tile[k] ^ change]) + tile[k + 1 :]
+
+
+def damaged(kind, p, l, seed=1):
+    """A tile with a kind of damage."""
+    return hurt(good(p, l, seed), p, *DAMAGE[kind](p))
+
+
+def record_length(p):
+    """How many bytes a record of size p has."""
+    return HEADER + tile_length(p)
+
+
+def joined(sizes):
+    """A sound reel of records of these sizes, numbered from 0, their damage of one kind after the other."""
+    kinds = list(DAMAGE)
+    return b"".join(
+        record(n, p, HOUSE[p], damaged(kinds[n % len(kinds)], p, HOUSE[p], seed=n % 60)) for n, p in enumerate(sizes)
+    )

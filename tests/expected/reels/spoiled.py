@@ -1,0 +1,52 @@
+"""Sound reels in which one thing was changed at random: a byte, the length, one byte more or one less."""
+
+from random import Random
+
+from expected.reels.made import Case, joined
+
+SOUND = {"small": joined([5, 7, 5, 11, 7, 5]), "mixed": joined([11, 5, 13, 7, 17, 5, 19]), "large": joined([5, 61, 7])}
+TRIES = 100
+
+
+def drawn(seed):
+    """For each try at each sound reel its name, the reel, and a pseudo-random place in it, never twice the same; and the source of
+    more."""
+    source = Random(seed)
+    for name, reel in SOUND.items():
+        for at in source.sample(range(len(reel)), TRIES):
+            yield name, reel, at, source
+
+
+def byte_changed():
+    """A byte becomes another one."""
+    for name, reel, at, source in drawn(4):
+        byte = reel[at] ^ source.randrange(1, 256)
+        yield Case(f"{name}, byte {at} changed to {byte:02X}", reel[:at] + bytes([byte]) + reel[at + 1 :])
+
+
+def header_byte_changed():
+    """Each byte of the second record's header becomes another one, in several ways."""
+    reel, start = SOUND["small"], 26
+    for at in range(start, start + 10):
+        for change in (0x01, 0x02, 0x04, 0x10, 0x80, 0xFF):
+            byte = reel[at] ^ change
+            yield Case(f"header byte {at} changed to {byte:02X}", reel[:at] + bytes([byte]) + reel[at + 1 :])
+
+
+def cut():
+    """The reel ends early."""
+    for name, reel, at, _ in drawn(5):
+        yield Case(f"{name}, cut to {at} bytes", reel[:at])
+
+
+def byte_inserted():
+    """A byte comes in between."""
+    for name, reel, at, source in drawn(6):
+        byte = source.randrange(256)
+        yield Case(f"{name}, {byte:02X} inserted before byte {at}", reel[:at] + bytes([byte]) + reel[at:])
+
+
+def byte_removed():
+    """A byte is lost."""
+    for name, reel, at, _ in drawn(7):
+        yield Case(f"{name}, byte {at} removed", reel[:at] + reel[at + 1 :])
