@@ -1,0 +1,52 @@
+-- Wrong programs, each broken by a theorem: no such program meets its contract. Assumes nothing.
+use mathlib.Core.Path.{_≡_, sym, ap, _∙_}
+use mathlib.Core.List.{List, _++_, append-cancel-left, append-cancel-right}
+use Prim.Native.Nat.{ℕ}
+use native.Mathlib.Omega.{arith}
+use lib.ListN.{getD, take}
+use Rattle.tile.specs.Answer.{clean, column}
+use Rattle.listing.specs.Line.{ascii, space, lf, decimal, tileLine, endLine, stoppedLine, Holds}
+use Rattle.listing.specs.Decimal.{decimal-once}
+use Rattle.listing.specs.Worked.{tile-7, tile-8, stopped-7, end-0}
+
+-- a line that holds a text has its signs: the k-th of them
+sign : {bytes text : List ℕ} {count : ℕ} → Holds bytes count text → {right wrong : List ℕ} → text ≡ right → take count bytes ≡ wrong
+    → (k : ℕ) → getD right k 0 ≡ getD wrong k 0
+sign holds is said k = ap (λ (x : List ℕ). getD x k 0) (sym is ∙ sym (holds .is) ∙ said)
+
+module _ {bytes : List ℕ} {count : ℕ} where
+  -- ---- the line of a tile
+
+  -- a number with a leading zero
+  pub leading-zero : Holds bytes count (tileLine 7 5 2 clean) → take count bytes ≡ ascii "07 5 2 clean\n" → ⊥
+  leading-zero holds said = let z = sign holds tile-7 said 0 in omega arith
+
+  -- the row's word for a column
+  pub row-for-column : Holds bytes count (tileLine 8 5 2 (column 3)) → take count bytes ≡ ascii "8 5 2 row 3\n" → ⊥
+  row-for-column holds said = let z = sign holds tile-8 said 6 in omega arith
+
+  -- a line without its LF
+  pub no-lf : Holds bytes count (tileLine 7 5 2 clean) → take count bytes ≡ ascii "7 5 2 clean" → ⊥
+  no-lf holds said = let z = sign holds tile-7 said 11 in omega arith
+
+  -- ---- the closing line at the end
+
+  -- the count before the word
+  pub count-first : Holds bytes count (endLine 0) → take count bytes ≡ ascii "0 end\n" → ⊥
+  count-first holds said = let z = sign holds end-0 said 0 in omega arith
+
+  -- an invented count, whatever the right one is
+  pub invented-count : (m n : ℕ) → (m ≡ n → ⊥) → Holds bytes count (endLine n) → take count bytes ≡ endLine m → ⊥
+  unfolding endLine
+  invented-count m n other holds said =
+      other (decimal-once m n (append-cancel-right (decimal m) (decimal n) lf (append-cancel-left (ascii "end" ++ space) _ _ (sym said ∙ holds .is))))
+
+  -- ---- the closing line at a refusal
+
+  -- the offset before the refusal's number
+  pub offset-first : Holds bytes count (stoppedLine 7 52) → take count bytes ≡ ascii "stopped 52 7\n" → ⊥
+  offset-first holds said = let z = sign holds stopped-7 said 8 in omega arith
+
+  -- an offset that counts from the record's own first byte
+  pub offset-from-record : Holds bytes count (stoppedLine 7 52) → take count bytes ≡ ascii "stopped 7 0\n" → ⊥
+  offset-from-record holds said = let z = sign holds stopped-7 said 10 in omega arith

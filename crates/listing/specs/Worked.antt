@@ -1,0 +1,86 @@
+-- The whole case of document 01 line by line, its empty input, the other answers, and the numbers at the edges. Assumes nothing.
+use mathlib.Core.Path.{_≡_, refl}
+use mathlib.Core.List.{List, [], _∷_}
+use Prim.Native.Nat.{ℕ}
+use native.Mathlib.Omega.{arith}
+use Rattle.xor.specs.Xor.{_⊕_}
+use Rattle.xor.specs.Sum.{xorBelow}
+use Rattle.code.specs.Tile.{place, cell, sum}
+use Rattle.code.specs.Test.{upTo}
+use Rattle.tile.specs.Answer.{clean, column, row, refused}
+use Rattle.tile.specs.Decide.{both, same, good, not-good, outside, filling, none-of}
+use Rattle.tile.specs.Worked.{Claim, repairs, zeros, mends, admitted-tile, tested}
+use Rattle.reel.specs.Calls.{ends}
+use Rattle.reel.specs.Worked.{whole-case, first, second, walked}
+use Rattle.listing.specs.Line.{ascii, digitsUpTo, decimal, stateText, tileLine, endLine, stoppedLine}
+use Rattle.listing.specs.Listing.{TileListed, lists, Closes, stops}
+use Rattle.listing.specs.Reached.{reached-first, reached-ends}
+use Rattle.listing.specs.Once.{listed-once, closes-once}
+
+-- ---- the texts
+
+pub tile-7 : tileLine 7 5 2 clean ≡ ascii "7 5 2 clean\n"
+unfolding tileLine stateText decimal digitsUpTo
+tile-7 = refl
+
+pub tile-8 : tileLine 8 5 2 (column 3) ≡ ascii "8 5 2 column 3\n"
+unfolding tileLine stateText decimal digitsUpTo
+tile-8 = refl
+
+pub stopped-7 : stoppedLine 7 52 ≡ ascii "stopped 7 52\n"
+unfolding stoppedLine decimal digitsUpTo
+stopped-7 = refl
+
+-- "An empty input gives `end 0`."
+pub end-0 : endLine 0 ≡ ascii "end 0\n"
+unfolding endLine decimal digitsUpTo
+end-0 = refl
+
+-- the other answers, and the numbers at the edges
+pub row-10 : tileLine 0 11 2 (row 10) ≡ ascii "0 11 2 row 10\n"
+unfolding tileLine stateText decimal digitsUpTo
+row-10 = refl
+
+pub refused-5 : tileLine 4294967295 257 3 (refused 5) ≡ ascii "4294967295 257 3 refused 5\n"
+unfolding tileLine stateText decimal digitsUpTo
+refused-5 = refl
+
+pub largest : decimal 18446744073709551615 ≡ ascii "18446744073709551615"
+unfolding decimal digitsUpTo
+largest = refl
+
+-- ---- the whole case: "tile 7, p 5, l 2, sixteen zeros; tile 8 likewise, but 41 hex at row 2, column 3; then one byte 00"
+
+abbrev hurt : List ℕ
+hurt = 0 ∷ 0 ∷ 0 ∷ 0 ∷ 0 ∷ 0 ∷ 0 ∷ 0 ∷ 0 ∷ 0 ∷ 0 ∷ 0x41 ∷ 0 ∷ 0 ∷ 0 ∷ 0 ∷ []
+
+-- what repair says of the two tiles
+computed : Claim (repairs zeros clean zeros) × Claim (repairs hurt (column 3) zeros)
+unfolding tested mends admitted-tile same good not-good outside filling none-of upTo sum cell place xorBelow _⊕_
+computed = both (tested (repairs zeros clean zeros)) (tested (repairs hurt (column 3) zeros)) .shows tt
+
+-- a text that R asks for, and no other
+abbrev pub Only : (List ℕ → Type 0) → List ℕ → Type 0
+Only R text = R text × ((other : List ℕ) → R other → other ≡ text)
+
+-- the three lines, each settled
+pub first-line : Only (TileListed whole-case 0) (ascii "7 5 2 clean\n")
+first-line =
+    let line = rw tile-7 at (lists first (record { new = zeros; told = computed .0 .0 })) in
+    (line, λ other said. listed-once said line)
+
+pub second-line : Only (TileListed whole-case 26) (ascii "8 5 2 column 3\n")
+second-line =
+    let line = rw tile-8 at (lists second (record { new = zeros; told = computed .1 .0 })) in
+    (line, λ other said. listed-once said line)
+
+pub closing-line : Only (Closes whole-case) (ascii "stopped 7 52\n")
+closing-line =
+    let line = rw stopped-7 at (stops walked) in
+    (line, λ other said. closes-once said line)
+
+-- and that of the empty input
+pub empty : Only (Closes []) (ascii "end 0\n")
+empty =
+    let line = rw end-0 at (reached-ends (reached-first []) (ends (omega arith))) in
+    (line, λ other said. closes-once said line)
