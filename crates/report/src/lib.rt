@@ -1,4 +1,4 @@
-// What the program `worked` makes its lines with: words, numbers and answers, and the bytes that its cases are about.
+// What the programs `worked` and `reading` make their lines with: words, numbers and answers, and the bytes that their cases are about.
 pub mod answer;
 pub mod bytes;
 pub mod layout;

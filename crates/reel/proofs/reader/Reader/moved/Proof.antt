@@ -1,6 +1,6 @@
--- `reel::reader::Reader::moved` meets its contract: a walk of its MIR, by hand. The struct is taken apart, and `after` is called on the slice and the number. All that the proof knows of `after` is that it meets its contract.
--- The struct is Copy: what it owns is had twice, one copy is kept whole for the exit, and of the other what src owns goes to the callee, beside the lifetime's token, which comes back.
--- Assumes nothing.
+-- `reel::reader::Reader::moved` meets its contract: a walk of its MIR, by hand. The reader is taken apart (`Held`), `after` is called on the
+-- slice and the place, and a reader is made anew of the slice and the answer. All that the proof knows of `after` is that it meets its
+-- contract. Assumes nothing.
 use mathlib.Core.Path.{refl, ap}
 use Prim.Native.Nat.{ℕ, _<_, _^_}
 use mathlib.Core.List.{[], _∷_}
@@ -62,7 +62,7 @@ module _ {M : Type 1} (𝓤 : URA M) (H : Heap 𝓤) (A : Atoms 𝓤) (mem : Mem
   After = tripleOf 𝓤 H A after.signature (after.spec 𝓤 H A mem run)
 
 module _ {M : Type 1} (𝓤 : URA M) (H : Heap 𝓤) (A : Atoms 𝓤) (W : Given 𝓤 H A) (mem : Memory → SProp 𝓤) (run : Routine → Fun 𝓤) (κ : Lft) (q : Share) (d : Reader) where
-  -- what the callee says of its answer
+  -- what the function that is called says of its answer
   abbrev Right : ℕ → Type 0
   Right r = AfterTold (now (d .reel)) (d .at) r
 
@@ -75,11 +75,11 @@ module _ {M : Type 1} (𝓤 : URA M) (H : Heap 𝓤) (A : Atoms 𝓤) (W : Given
   asked : ent 𝓤 (Lent 𝓤 H A W κ q d) (After 𝓤 H A mem run .pre to)
   asked = qed W ((‵ (flft κ q) ⊛ ‵ ftrue) ∷ ‵ (owns (ShrSlice (named 0) κ u8 ∷ usize ∷ []) (d .reel, (d .at, tt)) (passed d)) ∷ []) ∵ join ! $ frame ! $ done !
 
-  -- of the callee's `ensured`, the clause alone: it has no `&mut`, so what is said of last values is dropped
+  -- of its `ensured`, the clause alone: it has no `&mut`, so what is said of last values is dropped
   said : (r : ℕ) → ent 𝓤 (ensured 𝓤 H A after.ended (after.clauses 𝓤 H A mem run) (κ, tt) (d .reel, (d .at, tt)) tt r) (fact 𝓤 (Right r))
   said r = exE 𝓤 _ (λ ws. snd∗ 𝓤 (sem 𝓤 H A (lasts after.ended (κ, tt) (d .reel, (d .at, tt)) ws)) (fact 𝓤 (Right r)))
 
-  -- the struct at another place
+  -- the reader at another place
   abbrev at-place : ℕ → Reader
   at-place n = record { reel = d .reel; at = n }
 
@@ -88,7 +88,7 @@ module _ {M : Type 1} (𝓤 : URA M) (H : Heap 𝓤) (A : Atoms 𝓤) (W : Given
       qed W (‵ (usize .own n (vint w64 n ∷ [])) ∷ (‵ (flft κ q) ⊛ ‵ ftrue) ∷ ‵ (Own κ d) ∷ []) ∵
       suffices ! _ (ends-at 𝓤 H A moved.ended stayed (moved.clauses 𝓤 H A mem run) W (((κ, tt), (q, tt), tt, (d, tt), ((mach d) ∷ [], tt)), tt) (T′.lowered (at-place n)) (at-place n) (tt, tt) (tt, tt)) $ says ! (refl, e) $
       move ! (1 ∷ []) $ frame ! $ move ! (1 ∷ []) $ use1 W (‵ (Own κ d) ⊛ ‵ (Own κ d)) (LL.copy (D κ) (T′.the-copy (namedLft 1 0 tt (κ, tt))) 𝓤 H A W .twice d ((mach d) ∷ [])) $ split ! $
-      -- [what the struct owns; the same; what the number owns]: in one the number's facts take the place of at's
+      -- [what the reader owns; the same; what the number owns]: in one the number's facts take the place of the old place's
       nothing ! $ move ! (1 ∷ 0 ∷ []) $ fjoin ! $ frame ! $ by ! (own-put 𝓤 H A W (D κ) (L κ) 1 (fields κ d) n (mach d))
 
   module _ (C : Calls 𝓤 H) (Λ : Loops 𝓤 H) (fm : FmC 𝓤 H (W .laws) C) (known : Triple 𝓤 (C #reel·after) (After 𝓤 H A mem run)) where
@@ -103,7 +103,7 @@ module _ {M : Type 1} (𝓤 : URA M) (H : Heap 𝓤) (A : Atoms 𝓤) (W : Given
         calls-at ! fm (After 𝓤 H A mem run) known to (and-then ! (load ! (from ! (stop !)) (look ! 4 refl)) (and-then ! (load ! (from ! (stop !)) (look ! 2 refl)) (no-more !))) (λ u.
         use1 W (later (some (λ (n : ℕ). ((‵ (flft κ q) ⊛ ‵ ftrue) ⊛ ‵ (usize .own n (u ∷ []))) ⊛ raw (ensured 𝓤 H A after.ended (after.clauses 𝓤 H A mem run) (κ, tt) (d .reel, (d .at, tt)) tt n)))) (id⊢ 𝓤 _) $ await ! tt $ pick ! (λ n.
         split ! $ move ! (1 ∷ []) $ use1 W (raw (fact 𝓤 (Right n))) (said n) $ heard ! (Right n) (λ e. split ! $ move ! (1 ∷ []) $
-        -- [the number; the token; what the struct owns; _5; …; _4; …; room for _3; …; _2; …; _1; …; room for _0; …]
+        -- [the number; the token; what the reader owns; _5; …; _4; …; room for _3; …; _2; …; _1; …; room for _0; …]
         peeks ! usize (Is usize) (shows 𝓤 H A usize) n (u ∷ []) (λ is.
         land ! (from ! (stop !)) (init ! 7 refl (uint-lawful 𝓤 H A W w64 .typed n _ is .0)) $ rewrite ! 7 (λ (x : Val). ‵ (fat fullShare (tyInt w64) l₃ 0 x)) (ap only (is .0)) refl $
         rewrite ! 0 (λ (x : Val). ‵ (usize .own n (x ∷ []))) (ap only (is .0)) refl $
