@@ -37,12 +37,16 @@ refusal-moves-on told = let e = next-told-once whole-case 52 (refused 7 52) (ref
 
 -- ---- of `after`, and so of `rest`
 
--- one that skips a byte behind the tile
 abbrev after-first : AfterTold whole-case 0 26
 after-first = record { said = tile 7 5 2 10; told = first; is = refl }
 
+-- one that skips a byte behind the tile
 pub after-skips-byte : AfterTold whole-case 0 27 → ⊥
-after-skips-byte told = let e = after-once whole-case 0 26 27 after-first told in omega (arith, e)
+after-skips-byte told = omega (arith, after-once whole-case 0 26 27 after-first told)
+
+-- one that counts the tile's bytes from the record's first byte, and forgets the header
+pub forgets-header : AfterTold whole-case 0 16 → ⊥
+forgets-header told = omega (arith, after-once whole-case 0 26 16 after-first told)
 
 -- one that moves on at a refusal
 pub after-moves-on : AfterTold whole-case 52 53 → ⊥
@@ -54,9 +58,9 @@ module _ (reel part : RefT (List ℕ)) (is : now reel ≡ whole-case) where
   first-here : NextTold (now reel) 0 (tile 7 5 2 10)
   first-here = subst (λ (x : List ℕ). NextTold x 0 (tile 7 5 2 10)) (sym is) first
 
-  -- bytes that are one short
-  pub one-short : length (now part) ≡ 15 → BytesTold reel 0 part → ⊥
-  one-short e told = let stands = tile-stands reel part 0 7 5 2 10 first-here told in omega (arith, e, stands .long)
+  -- bytes of another length than the tile's
+  pub other-length : (length (now part) ≡ 16 → ⊥) → BytesTold reel 0 part → ⊥
+  other-length other told = other (tile-stands reel part 0 7 5 2 10 first-here told .long)
 
   -- a copy: the bytes are right, and stand in another block of memory
   pub a-copy : (ptr part .0 ≡ ptr reel .0 → ⊥) → BytesTold reel 0 part → ⊥

@@ -25,16 +25,16 @@ tile-length-requires c κs = tile-taken (rw (c .before .tile .given .1) at (c .b
 
 add-result : tie.Need-add-result
 add-result c =
-    let told = (rw (c .before .before .before .tile .given .1) at (c .before .before .before .before .before .next .ensures)) in
-    record { fits = omega (arith, tile-within told, c .before .tile-length .ensures, c .before .before .before .before .before .before .before .good .0 .0) }
+    let told = rw (c .before .before .tile .given .1) at (c .before .before .before .before .next .ensures) in
+    record { fits = omega (arith, tile-within told, c .tile-length .ensures, c .before .before .before .before .before .before .good .0 .0) }
 
 returns-2 : tie.Need-returns-2
 returns-2 c =
-    let found = c .before .before .before .tile .given .0 .0 in
+    let found = c .before .before .tile .given .0 .0 in
     record {
       said = tile (found .number) (found .p) (found .l) (found .at);
-      told = rw (c .before .before .before .tile .given .1) at (c .before .before .before .before .before .next .ensures);
-      is = ap (λ (n : ℕ). found .at + n) (c .before .tile-length .ensures);
+      told = rw (c .before .before .tile .given .1) at (c .before .before .before .before .next .ensures);
+      is = ap (λ (n : ℕ). found .at + n) (c .tile-length .ensures);
     }
 
 pub after-spec : {M : Type 1} → statement M
