@@ -12,13 +12,16 @@ use Rattle.reel.specs.Once.{after-once}
 use Rattle.reel.specs.Told.{rest-drops}
 use Rattle.reel.specs.Walks.{moves-on}
 
-pub by-place : {reel : List ℕ} {at number p l from to : ℕ} → NextTold reel at (tile number p l from) → AfterTold reel at to → (at < to) × (to ≤ length reel)
+-- the place behind a tile lies behind its own, and not past the end
+pub by-place : {reel : List ℕ} {at number p l from to : ℕ} → NextTold reel at (tile number p l from) → AfterTold reel at to
+    → (at < to) × (to ≤ length reel)
 by-place {reel} {at} {number} {p} {l} {from} {to} told after =
     let is : to ≡ from + tileLength p =
     after-once reel at to (from + tileLength p) after (record { said = tile number p l from; told = told; is = refl }) in
     let on = moves-on told in
     (omega (arith, is, on .0), omega (arith, is, on .1))
 
+-- the rest behind a tile is shorter than what it is the rest of
 pub by-rest : {left rest : RefT (List ℕ)} {number p l from : ℕ} → NextTold (now left) 0 (tile number p l from) → RestTold left 0 rest
     → length (now rest) < length (now left)
 by-rest {left} {rest} told r =

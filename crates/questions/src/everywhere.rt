@@ -1,5 +1,5 @@
-// A reel that is asked at every place, and right behind its last byte. The line, behind the words that say which reel it is, has how many
-// places answered a tile, the end, and each of the numbers for no, and a checksum over all answers:
+// A reel that is asked at every place, and right behind its last byte. The line, behind the words that say which reel it is, has how
+// many places answered a tile, the end, and each of the numbers for no, and a checksum over all answers:
 //
 //     tiles COUNT ends COUNT refused COUNT COUNT COUNT COUNT COUNT COUNT COUNT checksum SUM
 use crate::numbers;

@@ -1,5 +1,5 @@
-// Tile numbers: the smallest and the largest, those at which another of the four bytes counts, and numbers that repeat, all on one reel.
-// Its records are of size 5 and have 26 bytes each.
+// Tile numbers: the smallest and the largest, those at which another of the four bytes counts, and numbers that repeat. All stand on
+// one reel, whose records are of size 5 and have 26 bytes each.
 use questions::records;
 use questions::walk;
 use report::bytes;

@@ -1,6 +1,5 @@
 -- What an answer tells of the reel that was asked about. Assumes nothing.
 use mathlib.Core.Path.{_≡_, refl, sym, ap, _∙_}
-use mathlib.Core.Bool.{Bool, true, false}
 use mathlib.Core.List.{List, []}
 use Prim.Native.Nat.{ℕ, _+_, _-_, _<_, _≤_}
 use native.Mathlib.Omega.{arith}
@@ -8,12 +7,11 @@ use lib.Dec.{eqb}
 use lib.ListN.{length, getD, drop, length-drop}
 use lib.Seq.{take-all}
 use denote.Ref.{RefT, now}
-use borrow.Author.Tests.{eqb-true, eqb-false}
 use Rattle.code.specs.Size.{Size, Allowed}
 use Rattle.code.specs.Tile.{tileLength}
 use Rattle.record.specs.Number.{bigEndian}
 use Rattle.size.specs.Answer.{Says, well, Judged}
-use Rattle.size.specs.Told.{judged-well}
+use Rattle.size.specs.Told.{says-equal, judged-well}
 use Rattle.reel.specs.Reel.{byteOf, Marked, sizeOf, slopeOf, numberOf, bytesAt, HeaderWhole, RecordWhole}
 use Rattle.reel.specs.Answer.{Said, tile, end, refused, NoTile}
 use Rattle.reel.specs.Calls.{NextTold, header-cut, no-mark, refuses, body-cut, stands, afterSaid, HandsBack, RestTold}
@@ -21,14 +19,10 @@ use Rattle.reel.specs.Calls.{NextTold, header-cut, no-mark, refuses, bod
 -- a record has the mark exactly if its first two bytes make that number
 pub mark-says : (reel : List ℕ) (at n : ℕ) → n ≡ bigEndian (getD reel at 0) (byteOf reel at 1) → getD reel at 0 < 256 → byteOf reel at 1 < 256
     → Says (eqb n 0xD55D) (Marked reel at)
-mark-says reel at n is high low = go (eqb n 0xD55D) refl
+mark-says reel at n is high low = says-equal n 0xD55D (λ e. (omega (arith, first), omega arith)) (λ m. omega (arith, first, m .0, m .1))
   where
     first : getD reel at 0 ≡ byteOf reel at 0
     first = ap (λ (k : ℕ). getD reel k 0) (omega arith)
-
-    go : (t : Bool) → eqb n 0xD55D ≡ t → Says t (Marked reel at)
-    go true e = let q = eqb-true n 0xD55D e in (omega (arith, first), omega arith)
-    go false e = λ m. eqb-false n 0xD55D e (omega (arith, first, m .0, m .1))
 
 -- what the header was read to say stands for what it says: a tile whose bytes are cut short, and one that is whole
 module _ (reel : List ℕ) (at p l count : ℕ) (size : p ≡ sizeOf reel at) (slope : l ≡ slopeOf reel at) (long : count ≡ tileLength p) where

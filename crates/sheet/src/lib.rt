@@ -22,7 +22,9 @@ pub enum Corrected {
     Refused(Refusal, usize),
 }
 
-// How many bytes a record has.
+// The mark that each record begins with, as a number of two bytes, and how many bytes a record has.
+const MARK: usize = 0xC33C;
+
 const RECORD: usize = 8;
 
 // What a record says, and whether it has the mark.
@@ -43,25 +45,12 @@ fn nth(sheet: &[u8], k: usize) -> Correction
 {
     let at = RECORD * k;
     Correction {
-        marked: has_mark(sheet[at], sheet[at + 1]),
+        marked: record::number(sheet[at], sheet[at + 1]) == MARK,
         row: record::number(sheet[at + 2], sheet[at + 3]),
         column: record::number(sheet[at + 4], sheet[at + 5]),
         was: sheet[at + 6],
         is: sheet[at + 7],
     }
-}
-
-// Are the first two bytes of a record its mark?
-fn has_mark(first: u8, second: u8) -> bool
-    ensures { λ r. ⌜ Says r ((first ≡ 0xC3) × (second ≡ 0x3C)) ⌝ }
-{
-    if first != 0xC3 {
-        return false;
-    }
-    if second != 0x3C {
-        return false;
-    }
-    true
 }
 
 // Does the text of a tile of size p have the place?

@@ -15,7 +15,8 @@ from expected.tile import tile_length
 
 
 def found(reel, at):
-    """What stands at a place. "A place at or past the end of the bytes gives the end." "A refusal stays at the record's first byte." """
+    """What stands at a place. "A place at or past the end of the bytes gives the end"; "A refusal stays at the record's first
+    byte"."""
     if at >= len(reel):
         return ("end",)
     number = refusal(reel, at)
@@ -95,7 +96,7 @@ def by_place(reel):
 
 
 def by_rest(reel):
-    """The same by the rest. "Offsets count from the reel's first byte.\""""
+    """The same by the rest: "Offsets count from the reel's first byte"."""
     tiles, left = [], reel
     while found(left, 0)[0] == "tile":
         tiles.append(moved(found(left, 0), len(reel) - len(left)))

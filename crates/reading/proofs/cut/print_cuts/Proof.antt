@@ -1,4 +1,5 @@
--- `reading::cut::print_cuts` is safe and ends. The loop's invariant: the length is at most 28. The measure is what is left up to 28. Assumes nothing.
+-- `reading::cut::print_cuts` is safe and ends. The loop's invariant: the length is at most 28. The measure is what is left up to
+-- 28. Assumes nothing.
 use Prim.Native.Nat.{_-_, _≤_}
 use native.Mathlib.Omega.{arith}
 use Rattle.reading.proofs.cut.print_cuts.Statement.{statement}

@@ -1,4 +1,5 @@
--- `reading::sizes::print_cases` is safe and ends. The loop's invariant: p is at most 258. The measure is what is left up to 258. Assumes nothing.
+-- `reading::sizes::print_cases` is safe and ends. The loop's invariant: p is at most 258. The measure is what is left up to 258.
+-- Assumes nothing.
 use Prim.Native.Nat.{_-_, _≤_}
 use native.Mathlib.Omega.{arith}
 use Rattle.reading.proofs.sizes.print_cases.Statement.{statement}

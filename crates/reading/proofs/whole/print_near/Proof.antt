@@ -1,4 +1,5 @@
--- `reading::whole::print_near` is safe and ends. The loop's invariant: the place is at most 61. The measure is what is left up to 61. Assumes nothing.
+-- `reading::whole::print_near` is safe and ends. The loop's invariant: the place is at most 61. The measure is what is left up to
+-- 61. Assumes nothing.
 use Prim.Native.Nat.{_-_, _≤_}
 use native.Mathlib.Omega.{arith}
 use Rattle.reading.proofs.whole.print_near.Statement.{statement}
