@@ -116,8 +116,8 @@ pub fn after(reel: &[u8], at: usize) -> usize
     let Found::Tile(tile) = next(reel, at) else {
         return at;
     };
-    let start = tile.at;
-    start + tile_length(tile.p)
+    let bytes = tile.at;
+    bytes + tile_length(tile.p)
 }
 
 // The reel from the next mark on. A walk hands it to `next`, at place 0.
