@@ -2,7 +2,7 @@
 -- Assumes nothing.
 use mathlib.Core.Path.{_≡_, refl, sym, ap, _∙_, subst}
 use mathlib.Core.List.{List, []}
-use Prim.Native.Nat.{ℕ, _-_}
+use Prim.Native.Nat.{ℕ, _+_, _-_}
 use native.Mathlib.Omega.{arith}
 use lib.ListN.{length}
 use denote.Ref.{RefT, ptr, now}
@@ -93,6 +93,11 @@ next-once reel at a b s t = found-said-once a b (next-told-once reel at (foundSa
 
 pub after-once : (reel : List ℕ) (at a b : ℕ) → AfterTold reel at a → AfterTold reel at b → a ≡ b
 after-once reel at a b s t = s .is ∙ ap (afterSaid at) (next-told-once reel at (s .said) (t .said) (s .told) (t .told)) ∙ sym (t .is)
+
+-- behind a tile it is the place right behind the tile's bytes
+pub after-tile : {reel : List ℕ} {at number p l from to : ℕ} → NextTold reel at (tile number p l from) → AfterTold reel at to → to ≡ from + tileLength p
+after-tile {reel} {at} {number} {p} {l} {from} {to} told after =
+    after-once reel at to (from + tileLength p) after (record { said = tile number p l from; told = told; is = refl })
 
 -- what two parts have in common that are allowed for the same call
 pub record Same (a b : RefT (List ℕ)) : Type 0 where

@@ -2,16 +2,16 @@
 -- byte. Assumes nothing.
 use mathlib.Core.Path.{_≡_, sym, ap, _∙_, subst}
 use mathlib.Core.List.{List}
-use Prim.Native.Nat.{ℕ, _+_, _-_, _≤_}
+use Prim.Native.Nat.{ℕ, _+_, _-_, _≤_, _<_}
 use native.Mathlib.Omega.{arith}
 use lib.ListN.{length, getD, drop, length-drop}
 use lib.Seq.{getD-drop}
 use Rattle.code.specs.Tile.{tileLength}
-use Rattle.record.specs.Number.{bigEndian, bigEndianLong}
 use Rattle.size.specs.Answer as size
 use Rattle.reel.specs.Reel.{byteOf, Marked, sizeOf, slopeOf, numberOf, bytesAt, HeaderWhole, RecordWhole}
 use Rattle.reel.specs.Answer.{Said, tile, refused}
 use Rattle.reel.specs.Calls.{NextTold, ends, header-cut, no-mark, refuses, body-cut, stands}
+use Rattle.reel.specs.Told.{same-marked, same-size, same-slope, same-number}
 use Rattle.reel.specs.Walk.{shifted}
 
 module _ (reel : List ℕ) (at : ℕ) (h : at ≤ length reel) where
@@ -19,23 +19,23 @@ module _ (reel : List ℕ) (at : ℕ) (h : at ≤ length reel) where
   long : length (drop at reel) ≡ length reel - at
   long = length-drop at reel
 
-  byte : (n : ℕ) → byteOf (drop at reel) 0 n ≡ byteOf reel at n
-  byte n = getD-drop at reel (0 + n) 0 ∙ ap (λ (k : ℕ). getD reel k 0) (omega arith)
-
-  part-marked : Marked (drop at reel) 0 → Marked reel at
-  part-marked m = (sym (byte 0) ∙ m .0, sym (byte 1) ∙ m .1)
+  byte : (n : ℕ) → n < bytesAt 0 → byteOf (drop at reel) 0 n ≡ byteOf reel at n
+  byte n h = getD-drop at reel (0 + n) 0 ∙ ap (λ (k : ℕ). getD reel k 0) (omega arith)
 
   marked-part : Marked reel at → Marked (drop at reel) 0
-  marked-part m = (byte 0 ∙ m .0, byte 1 ∙ m .1)
+  marked-part = same-marked (drop at reel) reel 0 at byte
+
+  part-marked : Marked (drop at reel) 0 → Marked reel at
+  part-marked = same-marked reel (drop at reel) at 0 (λ n h. sym (byte n h))
 
   part-size : sizeOf (drop at reel) 0 ≡ sizeOf reel at
-  part-size = λ i. bigEndian (byte 2 i) (byte 3 i)
+  part-size = same-size (drop at reel) reel 0 at byte
 
   part-slope : slopeOf (drop at reel) 0 ≡ slopeOf reel at
-  part-slope = λ i. bigEndian (byte 4 i) (byte 5 i)
+  part-slope = same-slope (drop at reel) reel 0 at byte
 
   part-number : numberOf (drop at reel) 0 ≡ numberOf reel at
-  part-number = λ i. bigEndianLong (byte 6 i) (byte 7 i) (byte 8 i) (byte 9 i)
+  part-number = same-number (drop at reel) reel 0 at byte
 
   part-judged : {said : size.Said} → size.Judged (sizeOf (drop at reel) 0) (slopeOf (drop at reel) 0) said → size.Judged (sizeOf reel at) (slopeOf reel at) said
   part-judged {said} j = subst (λ (n : ℕ). size.Judged (sizeOf reel at) n said) part-slope (subst (λ (n : ℕ). size.Judged n (slopeOf (drop at reel) 0) said) part-size j)

@@ -7,13 +7,13 @@ use native.Mathlib.Omega.{arith}
 use lib.ListN.{length, take, drop, length-append, length-drop, List·getD-append}
 use lib.Seq.{drop-append-seam, drop-drop, drop-at, take-at, drop-append-le}
 use Rattle.code.specs.Tile.{tileLength, Bytes}
-use Rattle.record.specs.Number.{bigEndian, bigEndianLong}
 use Rattle.size.specs.Answer as size
 use Rattle.reel.specs.Reel.{byteOf, sizeOf, slopeOf, numberOf, bytesAt, RecordWhole}
 use Rattle.reel.specs.Answer.{Said, tile, end}
 use Rattle.reel.specs.Calls.{NextTold, ends, stands}
 use Rattle.reel.specs.Walk.{WalkByPlace}
 use Rattle.reel.specs.Walk as walk
+use Rattle.reel.specs.Told.{same-marked, same-size, same-slope, same-number}
 use Rattle.reel.specs.Part.{part-told}
 use Rattle.reel.specs.Record.{Printed, Fit, RecordOf, Laid, ReadBack}
 use Rattle.reel.specs.Record as put
@@ -70,13 +70,13 @@ module _ (t : Printed) (bytes behind : List ℕ) (fit : Fit t) (of : RecordOf t 
   same n h = List·getD-append bytes behind 0 (0 + n) (omega (arith, of .long))
 
   says-size : sizeOf (bytes ++ behind) 0 ≡ t .p
-  says-size = (λ i. bigEndian (same 2 (omega arith) i) (same 3 (omega arith) i)) ∙ of .size
+  says-size = same-size (bytes ++ behind) bytes 0 0 same ∙ of .size
 
   says-slope : slopeOf (bytes ++ behind) 0 ≡ t .l
-  says-slope = (λ i. bigEndian (same 4 (omega arith) i) (same 5 (omega arith) i)) ∙ of .slope
+  says-slope = same-slope (bytes ++ behind) bytes 0 0 same ∙ of .slope
 
   says-number : numberOf (bytes ++ behind) 0 ≡ t .number
-  says-number = (λ i. bigEndianLong (same 6 (omega arith) i) (same 7 (omega arith) i) (same 8 (omega arith) i) (same 9 (omega arith) i)) ∙ of .number
+  says-number = same-number (bytes ++ behind) bytes 0 0 same ∙ of .number
 
   long : length bytes ≡ bytesAt 0 + tileLength (t .p)
   long = of .long ∙ ap (λ (n : ℕ). bytesAt 0 + n) (fit .long)
@@ -87,7 +87,7 @@ module _ (t : Printed) (bytes behind : List ℕ) (fit : Fit t) (of : RecordOf t 
       let whole : RecordWhole (bytes ++ behind) 0 = omega (arith, length-append bytes behind, long, ap tileLength says-size) in
       let judged : size.Judged (sizeOf (bytes ++ behind) 0) (slopeOf (bytes ++ behind) 0) size.well = rw (says-size, says-slope) (size.taken (fit .size) (fit .slope)) in
       let told : NextTold (bytes ++ behind) 0 (tile (numberOf (bytes ++ behind) 0) (sizeOf (bytes ++ behind) 0) (slopeOf (bytes ++ behind) 0) (bytesAt 0)) =
-      stands whole (same 0 (omega arith) ∙ of .marked .0, same 1 (omega arith) ∙ of .marked .1) judged in
+      stands whole (same-marked (bytes ++ behind) bytes 0 0 same (of .marked)) judged in
       subst (λ (s : Said). NextTold (bytes ++ behind) 0 s) (λ i. tile (says-number i) (says-size i) (says-slope i) (bytesAt 0)) told
 
   -- .. whose bytes stand where the answer says ..

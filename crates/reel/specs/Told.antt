@@ -3,13 +3,13 @@ use mathlib.Core.Path.{_≡_, refl, sym, ap, _∙_}
 use mathlib.Core.List.{List, []}
 use Prim.Native.Nat.{ℕ, _+_, _-_, _<_, _≤_}
 use native.Mathlib.Omega.{arith}
-use lib.Dec.{eqb}
+use lib.Dec.{T, eqb, ltb, lit<}
 use lib.ListN.{length, getD, drop, length-drop}
 use lib.Seq.{take-all}
 use denote.Ref.{RefT, now}
 use Rattle.code.specs.Size.{Size, Allowed}
 use Rattle.code.specs.Tile.{tileLength}
-use Rattle.record.specs.Number.{bigEndian}
+use Rattle.record.specs.Number.{bigEndian, bigEndianLong}
 use Rattle.size.specs.Answer.{Says, well, Judged}
 use Rattle.size.specs.Told.{says-equal, judged-well}
 use Rattle.reel.specs.Reel.{byteOf, Marked, sizeOf, slopeOf, numberOf, bytesAt, HeaderWhole, RecordWhole}
@@ -23,6 +23,23 @@ mark-says reel at n is high low = says-equal n 0xD55D (λ e. (omega (arith, firs
   where
     first : getD reel at 0 ≡ byteOf reel at 0
     first = ap (λ (k : ℕ). getD reel k 0) (omega arith)
+
+-- two headers whose bytes are the same say the same
+module _ (a b : List ℕ) (i j : ℕ) (same : (n : ℕ) → n < bytesAt 0 → byteOf a i n ≡ byteOf b j n) where
+  byte : (n : ℕ) → T (ltb n 10) → byteOf a i n ≡ byteOf b j n
+  byte n h = same n (lit< h)
+
+  pub same-marked : Marked b j → Marked a i
+  same-marked m = (byte 0 tt ∙ m .0, byte 1 tt ∙ m .1)
+
+  pub same-size : sizeOf a i ≡ sizeOf b j
+  same-size = λ k. bigEndian (byte 2 tt k) (byte 3 tt k)
+
+  pub same-slope : slopeOf a i ≡ slopeOf b j
+  same-slope = λ k. bigEndian (byte 4 tt k) (byte 5 tt k)
+
+  pub same-number : numberOf a i ≡ numberOf b j
+  same-number = λ k. bigEndianLong (byte 6 tt k) (byte 7 tt k) (byte 8 tt k) (byte 9 tt k)
 
 -- what the header was read to say stands for what it says: a tile whose bytes are cut short, and one that is whole
 module _ (reel : List ℕ) (at p l count : ℕ) (size : p ≡ sizeOf reel at) (slope : l ≡ slopeOf reel at) (long : count ≡ tileLength p) where

@@ -11,7 +11,7 @@ use Rattle.code.specs.Tile.{tileLength}
 use Rattle.reel.specs.Answer.{Said, tile, end, refused, NoTile}
 use Rattle.reel.specs.Calls.{NextTold, AfterTold, RestTold}
 use Rattle.reel.specs.Told.{tile-taken, tile-within, tile-behind, rest-drops}
-use Rattle.reel.specs.Once.{next-told-once, after-once}
+use Rattle.reel.specs.Once.{next-told-once, after-once, after-tile}
 use Rattle.reel.specs.Walk as walk
 use Rattle.reel.specs.Walk.{WalkByPlace, WalkByRest, shifted}
 use Rattle.reel.specs.Total.{next-total}
@@ -66,6 +66,20 @@ pub walk-once : {reel : List ℕ} {at : ℕ} {s t : List Said} {a b : Said} → 
 walk-once x y = same-walk refl x y
 
 -- ---- a walk by the rest
+
+-- the rest behind a tile is shorter by the record ..
+pub rest-shorter : {left rest : RefT (List ℕ)} {number p l from : ℕ} → NextTold (now left) 0 (tile number p l from) → RestTold left 0 rest
+    → length (now rest) + (from + tileLength p) ≡ length (now left)
+rest-shorter {left} {rest} told r =
+    omega (arith, ap length (rest-drops left rest 0 r), length-drop (r .from) (now left), moves-on told .1, after-tile told (r .told))
+
+-- .. and is the reel from behind it on
+pub rest-on : {left rest : RefT (List ℕ)} {number p l from : ℕ} (reel : List ℕ) (at : ℕ) → now left ≡ drop at reel
+    → NextTold (now left) 0 (tile number p l from) → RestTold left 0 rest → now rest ≡ drop (at + from + tileLength p) reel
+rest-on {left} {rest} {number} {p} {l} {from} reel at e told r =
+    let sum : at + r .from ≡ at + from + tileLength p = omega (arith, after-tile told (r .told)) in
+    rest-drops left rest 0 r ∙ ap (drop (r .from)) e ∙ drop-drop (r .from) at reel ∙ ap (λ (k : ℕ). drop k reel) sum
+
 -- how many bytes stand before what is left
 before-left : (reel left : List ℕ) (at : ℕ) → at ≤ length reel → left ≡ drop at reel → length reel - length left ≡ at
 before-left reel left at h e = omega (arith, ap length e, length-drop at reel)
@@ -82,13 +96,9 @@ by-place {reel} at left h e (walk.WalkByRest.stops {last = said} told n) =
     (walk.WalkByPlace.stops (part-told reel at h (subst (λ (x : List ℕ). NextTold x 0 said) e told)) (shifted-none at said n))
 by-place {reel} {last = last} at left h e (walk.WalkByRest.goes-on {rest = rest} {number} {p} {l} {from} {more} told r walked) =
     let here : NextTold reel at (tile number p l (at + from)) = part-told reel at h (subst (λ (x : List ℕ). NextTold x 0 (tile number p l from)) e told) in
-    let to : r .from ≡ from + tileLength p = after-once (now left) 0 (r .from) (from + tileLength p) (r .told) (record { said = tile number p l from; told = told; is = refl }) in
-    let sum : at + r .from ≡ at + from + tileLength p = omega (arith, to) in
-    let behind : now rest ≡ drop (at + from + tileLength p) reel =
-    rest-drops left rest 0 r ∙ ap (drop (r .from)) e ∙ drop-drop (r .from) at reel ∙ ap (λ (k : ℕ). drop k reel) sum in
     subst (λ (k : ℕ). WalkByPlace reel at (shifted k (tile number p l from) ∷ more) last) (sym (before-left reel (now left) at h e))
     (walk.WalkByPlace.goes-on here (record { said = tile number p l (at + from); told = here; is = refl })
-    (by-place (at + from + tileLength p) rest (tile-within here) behind walked))
+    (by-place (at + from + tileLength p) rest (tile-within here) (rest-on reel at e told r) walked))
 
 -- and it ends too
 abbrev pub WalkedRest : ℕ → RefT (List ℕ) → Type 0
@@ -111,8 +121,7 @@ one-rest total left shorter (tile number p l from) told =
       told = record { said = tile number p l from; told = told; is = refl };
       is = record { holds = refl; own = λ some. refl };
     } in
-    let on = moves-on told in
-    let rest = shorter (onward left to) (omega (arith, on .0, on .1, ap length (rest-drops left (onward left to) 0 r), length-drop to (now left))) in
+    let rest = shorter (onward left to) (omega (arith, moves-on told .0, rest-shorter told r)) in
     (tile number p l (total - length (now left) + from) ∷ rest .0, rest .1, walk.WalkByRest.goes-on {more = rest .0} {last = rest .1} told r (rest .2))
 
 within-rest : (fuel total : ℕ) (left : RefT (List ℕ)) → length (now left) ≤ fuel → WalkedRest total left

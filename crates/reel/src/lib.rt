@@ -27,9 +27,10 @@ pub enum Found {
     Refused(Refusal, usize),
 }
 
-// The mark that each record begins with, as a number of two bytes, and how many bytes stand before the tile's.
+// The mark that each record begins with, as a number of two bytes.
 const MARK: usize = 0xD55D;
 
+// How many bytes of a record stand before the tile's.
 const HEADER: usize = 10;
 
 // What stands before a tile's bytes, and whether it has the mark.

@@ -22,9 +22,10 @@ pub enum Corrected {
     Refused(Refusal, usize),
 }
 
-// The mark that each record begins with, as a number of two bytes, and how many bytes a record has.
+// The mark that each record begins with, as a number of two bytes.
 const MARK: usize = 0xC33C;
 
+// How many bytes a record has.
 const RECORD: usize = 8;
 
 // What a record says, and whether it has the mark.

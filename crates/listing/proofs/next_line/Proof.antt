@@ -12,7 +12,7 @@ bytes-requires c κs = search needs
 state-requires : tie.Need-state-requires
 state-requires c κs =
     let start = c .before .before .before .before in
-    omega (arith, bytes-fit (c .before .bytes .ensures), start .pre .1)
+    omega (arith, bytes-fit (start .pre .0) (c .before .bytes .ensures), start .pre .1)
 
 tile-line-requires : tie.Need-tile-line-requires
 tile-line-requires c κs = search needs
