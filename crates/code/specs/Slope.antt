@@ -21,8 +21,9 @@ pub slope-pos : (p l : ℕ) → Slope p l → 0 < l % p
 slope-pos p l s = below-pos p l (omega arith) (omega arith)
 
 -- the inverse of a slope is a slope
+pub inverse-slope : (p l m : ℕ) → Slope p l → m < p → l * m % p ≡ 1 → Slope p m
+inverse-slope p l m s h e = let b = inverse-between p l m (s .prime) h e (s .low) (s .high) in record { prime = s .prime; low = b .0; high = b .1 }
+
+-- and there is one
 pub slope-inverse : (p l : ℕ) → Slope p l → (m : ℕ) × (l * m % p ≡ 1) × Slope p m
-slope-inverse p l s =
-    let t = inverse p l (s .prime) (slope-pos p l s) in
-    let b = inverse-between p l (t .0) (s .prime) (t .1) (t .2) (s .low) (s .high) in
-    (t .0, t .2, record { prime = s .prime; low = b .0; high = b .1 })
+slope-inverse p l s = let t = inverse p l (s .prime) (slope-pos p l s) in (t .0, t .2, inverse-slope p l (t .0) s (t .1) (t .2))

@@ -10,16 +10,18 @@ use lib.Seq.{getD-set-same, getD-set-other}
 use borrow.Author.Tests.{eq-eqb, ne-eqb}
 use Rattle.xor.specs.Xor.{_⊕_, ⊕-is, zero-r}
 use Rattle.xor.specs.Sum.{keep}
+use Rattle.residue.specs.Prime.{Prime}
 use Rattle.code.specs.Tile.{Cells, tileLength, line, sum}
 
 -- what an array or a slice holds, place by place
 abbrev pub held : List ℕ → ℕ → ℕ
 held xs k = getD xs k 0
 
--- a tile of n bytes, and a slope along which its lines are summed
+-- a tile of n bytes, and a slope along which its lines are summed. The walk wants the slope's inverse, and so a prime p
 pub record Shape (p s n : ℕ) : Type 0 where
-  pub low : 2 ≤ p
+  pub prime : Prime p
   pub high : p ≤ 257
+  pub positive : 0 < s
   pub slope : s < p
   pub size : n ≡ tileLength p
 

@@ -2,15 +2,14 @@
 use crate::index::step;
 ghost use mathlib.Core.Path.{_≡_};
 ghost use Prim.Native.Nat.{ℕ, _*_, _%_, _≤_, _<_};
-ghost use Rattle.code.specs.Slope.{Slope};
+ghost use Rattle.residue.specs.Prime.{Prime};
 ghost use Rattle.lines.specs.Held.{held};
 
-// The inverse of the slope l.
+// The inverse of the slope l, which may be 1.
 pub fn inverse(p: usize, l: usize) -> usize
-    requires { ⌜ Slope p l ⌝ }
-    requires { ⌜ p ≤ 257 ⌝ }
-    ensures { λ r. ⌜ l * r % p ≡ 1 ⌝ }
-    ensures { λ r. ⌜ Slope p r ⌝ }
+    requires { ⌜ Prime p ⌝ }
+    requires { ⌜ (0 < l) × (l < p) × (p ≤ 257) ⌝ }
+    ensures { λ r. ⌜ (l * r % p ≡ 1) × (r < p) ⌝ }
 {
     let mut t = l;
     let mut m = 1;

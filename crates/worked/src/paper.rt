@@ -140,12 +140,12 @@ fn print_written_again(name: &[u8], tile: &mut [u8; 36]) {
     end_with_tile(7, tile);
 }
 
-// A line with the sums along slope 1, the sums along slope l, and whether all are one. These functions take every slope.
+// A line with the sums along slope 1, the sums along slope l, and whether all are one. These functions take every slope but 0.
 fn print_sums(name: &[u8], p: usize, l: usize, tile: &[u8]) {
-    if p < 2 {
+    if !size::takes_size(p) {
         return;
     }
-    if 257 < p {
+    if l == 0 {
         return;
     }
     if p <= l {

@@ -8,7 +8,7 @@ use native.Mathlib.Numerals.{add-one}
 use native.Mathlib.Omega.{arith}
 use lib.Dec.{eqb}
 use borrow.Author.Tests.{eqb-true, eq-eqb}
-use Rattle.xor.specs.Xor.{_⊕_, xors, four, zero-l, zero-r, byte}
+use Rattle.xor.specs.Xor.{_⊕_, xors, assoc, four, zero-l, zero-r, byte}
 
 -- f 0 ⊕ .. ⊕ f (n - 1), and 0 for n = 0
 unfoldable pub xorBelow : ℕ → (ℕ → ℕ) → ℕ
@@ -66,6 +66,12 @@ pub split : (n : ℕ) (f g : ℕ → ℕ) → xorBelow n (λ i. f i ⊕ g i) ≡
 unfolding xorBelow
 split zero f g = sym (zero-l 0)
 split (suc n) f g = ap (λ (x : ℕ). x ⊕ (f n ⊕ g n)) (split n f g) ∙ four (xorBelow n f) (xorBelow n g) (f n) (g n)
+
+-- the first n terms, and the m terms after them
+pub parts : (n m : ℕ) (f : ℕ → ℕ) → xorBelow (n + m) f ≡ xorBelow n f ⊕ xorBelow m (λ k. f (n + k))
+unfolding xorBelow
+parts n zero f = count (n + 0) n f (omega arith) ∙ sym (zero-r (xorBelow n f))
+parts n (suc m) f = count (n + suc m) (suc (n + m)) f (omega arith) ∙ rw (parts n m f) (assoc _ _ _)
 
 -- by rows or by columns, a double sum is the same
 pub swap : (n m : ℕ) (f : ℕ → ℕ → ℕ) → xorBelow n (λ i. xorBelow m (f i)) ≡ xorBelow m (λ j. xorBelow n (λ i. f i j))

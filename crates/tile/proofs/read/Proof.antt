@@ -19,7 +19,7 @@ enum-told c = search needs
 is-good-requires : tie.Need-is-good-requires
 is-good-requires c κs =
     let w = admitted-well (rw (c .enum-told .given .1) at (c .before .before .judge-text .ensures)) in
-    record { low = omega (arith, w .0 .low); high = w .0 .high; slope = omega (arith, w .1 .high); size = w .2 .0 }
+    record { prime = w .0 .prime; high = w .0 .high; positive = omega (arith, w .1 .low); slope = omega (arith, w .1 .high); size = w .2 .0 }
 
 take-requires : tie.Need-take-requires
 take-requires c κs =

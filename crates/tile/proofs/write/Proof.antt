@@ -29,14 +29,14 @@ line-sums-requires c κs =
     let laid = c .before .before .before in
     let judged = laid .before .before .before .before in
     let w = admitted-well (rw (laid .before .before .enum-told .given .1) at (judged .judge-text .ensures)) in
-    record { low = omega (arith, w .0 .low); high = w .0 .high; slope = omega (arith, w .0 .low); size = laid .lay .ensures .size ∙ w .2 .0 }
+    record { prime = w .0 .prime; high = w .0 .high; positive = omega arith; slope = omega (arith, w .0 .low); size = laid .lay .ensures .size ∙ w .2 .0 }
 
 line-sums-requires-2 : tie.Need-line-sums-requires-2
 line-sums-requires-2 c κs =
     let laid = c .before .before .before .before .before in
     let judged = laid .before .before .before .before in
     let w = admitted-well (rw (laid .before .before .enum-told .given .1) at (judged .judge-text .ensures)) in
-    record { low = omega (arith, w .0 .low); high = w .0 .high; slope = omega (arith, w .1 .high); size = laid .lay .ensures .size ∙ w .2 .0 }
+    record { prime = w .0 .prime; high = w .0 .high; positive = omega (arith, w .1 .low); slope = omega (arith, w .1 .high); size = laid .lay .ensures .size ∙ w .2 .0 }
 
 settle-requires : tie.Need-settle-requires
 settle-requires c κs =

@@ -1,6 +1,7 @@
 -- `lines::filling::rows` meets its contract: rows are columns of the turned tile. Assumes nothing.
 use native.Mathlib.Omega.{arith}
 use borrow.Author.Needs.{needs}
+use Rattle.code.specs.Slope.{inverse-slope}
 use Rattle.lines.specs.Held.{held}
 use Rattle.lines.specs.Cases.{held-turned, solved-rows}
 use Rattle.lines.proofs.filling.rows.Statement.{statement}
@@ -15,7 +16,7 @@ turned-requires c κs = search needs
 columns-requires : tie.Need-columns-requires
 columns-requires c κs =
     let start = c .before .before .before in (
-      c .before .before .inverse .ensures .1,
+      inverse-slope _ _ _ (start .pre .0) (c .before .before .inverse .ensures .1) (c .before .before .inverse .ensures .0),
       (omega arith, omega arith, omega arith, held-turned (start .args .p) (start .args .l) _ (held (start .args .b .now)) _ (start .pre .0) (c .before .turned .ensures) (start .pre .1 .3)),
     )
 

@@ -3,8 +3,13 @@ use Prim.Native.Nat.{_-_, _≤_}
 use native.Mathlib.Nat.{mul-le-mul}
 use native.Mathlib.Omega.{arith}
 use borrow.Author.Needs.{needs}
+use borrow.Author.Tests.{not-false}
+use Rattle.size.specs.Told.{says-true}
 use Rattle.worked.proofs.paper.print_sums.Statement.{statement}
 use Rattle.worked.proofs.paper.print_sums.Tie as tie
+
+takes-size-requires : tie.Need-takes-size-requires
+takes-size-requires c κs = search needs
 
 returns : tie.Need-returns
 returns c = search needs
@@ -23,17 +28,25 @@ sub-if4-2 c = search needs
 
 mul-if4 : tie.Need-mul-if4
 mul-if4 c =
-    let rows : c .before .before .before .before .before .args .p - 1 ≤ 256 = omega arith in
+    let taken = c .before .before in
+    let size = says-true {b = taken .before .takes-size .result} (taken .before .takes-size .ensures) (not-false (taken .before .takes-size .result) (taken .if1 .left)) in
+    let rows : taken .before .before .before .before .args .p - 1 ≤ 256 = omega (arith, size .high) in
     omega (arith, mul-le-mul rows rows)
 
 returns-4 : tie.Need-returns-4
 returns-4 c = search needs
 
 line-sums-requires : tie.Need-line-sums-requires
-line-sums-requires c κs = search needs
+line-sums-requires c κs =
+    let taken = c .before .before .before in
+    let size = says-true {b = taken .before .takes-size .result} (taken .before .takes-size .ensures) (not-false (taken .before .takes-size .result) (taken .if1 .left)) in
+    record { prime = size .prime; high = size .high; positive = omega arith; slope = omega (arith, size .low); size = omega arith }
 
 line-sums-requires-2 : tie.Need-line-sums-requires-2
-line-sums-requires-2 c κs = search needs
+line-sums-requires-2 c κs =
+    let taken = c .before .before .before .before in
+    let size = says-true {b = taken .before .takes-size .result} (taken .before .takes-size .ensures) (not-false (taken .before .takes-size .result) (taken .if1 .left)) in
+    record { prime = size .prime; high = size .high; positive = omega arith; slope = omega arith; size = omega arith }
 
 slice-aggregate-begin : tie.Need-slice-aggregate-begin
 slice-aggregate-begin c = search needs
@@ -60,7 +73,11 @@ first-requires-2 : tie.Need-first-requires-2
 first-requires-2 c κs = search needs
 
 all-one-requires : tie.Need-all-one-requires
-all-one-requires c κs = search needs
+all-one-requires c κs =
+    let summed = c .before .before .before .before .before .before .before .before .before .before in
+    let taken = summed .before .before .before .before .before in
+    let size = says-true {b = taken .before .takes-size .result} (taken .before .takes-size .ensures) (not-false (taken .before .takes-size .result) (taken .if1 .left)) in
+    (omega arith, size .high)
 
 slice-aggregate-words-2 : tie.Need-slice-aggregate-words-2
 slice-aggregate-words-2 c = search needs
@@ -84,6 +101,7 @@ pub print-sums-spec : {M : Type 1} → statement M
 print-sums-spec =
     tie.close
     (tie.spec
+    takes-size-requires
     returns
     returns-2
     returns-3
