@@ -45,7 +45,7 @@ slope-once : {p l m : ℕ} → HouseSlope p l → HouseSlope p m → l ≡ m
 slope-once {p} {l} {m} a b = le-antisymm (by-contra l m (λ h. a .least m h (b .allowed))) (by-contra m l (λ h. b .least l h (a .allowed)))
 
 -- of one p one thing is said, and of one p and l ..
-house-told-once : (p : ℕ) (a b : Said) → HouseTold p a → HouseTold p b → a ≡ b
+pub house-told-once : (p : ℕ) (a b : Said) → HouseTold p a → HouseTold p b → a ≡ b
 house-told-once p a b (given s h) (given t k) = ap slope (slope-once h k)
 house-told-once p a b (given s h) (no-size f) = absurd (f s)
 house-told-once p a b (no-size f) (given s h) = absurd (f s)

@@ -29,6 +29,13 @@ given-size (given s h) = s
 pub refused-size : {p n : ℕ} → HouseTold p (refused n) → Size p → ⊥
 refused-size (no-size f) s = f s
 
+-- the house slope is taken, and what has none is refused with the same number whatever the slope
+pub house-taken : {p l : ℕ} → HouseTold p (slope l) → Judged p l well
+house-taken (given s h) = taken s (h .allowed)
+
+pub house-refused : {p l n : ℕ} → HouseTold p (refused n) → Judged p l (refused n)
+house-refused (no-size f) = no-size f
+
 -- what is judged well is a size with a slope that it allows, and what is refused is not
 pub judged-well : {p l : ℕ} → Judged p l well → Size p × Allowed p l
 judged-well (taken s a) = (s, a)

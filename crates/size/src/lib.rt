@@ -158,18 +158,22 @@ pub enum Judgement {
     Refused(Refusal),
 }
 
-// Judges a size and a slope: refusal 1 where p is no size, then refusal 2 where p does not allow l.
+// Judges a size and a slope: refusal 1 where p is no size, then refusal 2 where p does not allow l. The house slope is known from the
+// table, so that no power of it is looked at.
 pub fn judge(p: usize, l: usize) -> Judgement
     ensures { λ r. ⌜ Judged p l (judgementSaid r) ⌝ }
 {
-    if takes_size(p) {
-        if allows(p, l) {
-            Judgement::Taken
-        } else {
-            Judgement::Refused(Refusal::BadSlope)
+    match house_slope(p) {
+        House::Refused(refusal) => Judgement::Refused(refusal),
+        House::Slope(house) => {
+            if l == house {
+                Judgement::Taken
+            } else if allows(p, l) {
+                Judgement::Taken
+            } else {
+                Judgement::Refused(Refusal::BadSlope)
+            }
         }
-    } else {
-        Judgement::Refused(Refusal::BadSize)
     }
 }
 

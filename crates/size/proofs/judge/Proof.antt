@@ -1,28 +1,37 @@
--- `size::judge` meets its contract: it asks for the size first, and for the slope where the size is one. Assumes nothing.
+-- `size::judge` meets its contract: the table tells a size and its house slope, and the powers tell any other slope. Assumes nothing.
 use borrow.Author.Needs.{needs}
-use Rattle.size.specs.Answer.{taken, no-size, no-slope}
-use Rattle.size.specs.Told.{says-true, says-false}
+use Rattle.size.specs.Answer.{taken, no-slope}
+use Rattle.size.specs.Told.{says-true, says-false, given-size, house-taken, house-refused}
 use Rattle.size.proofs.judge.Statement.{statement}
 use Rattle.size.proofs.judge.Tie as tie
 
-takes-size-requires : tie.Need-takes-size-requires
-takes-size-requires c κs = search needs
+house-slope-requires : tie.Need-house-slope-requires
+house-slope-requires c κs = search needs
+
+enum-known-refusal : tie.Need-enum-known-refusal
+enum-known-refusal c = search needs
+
+enum-known-house : tie.Need-enum-known-house
+enum-known-house c = search needs
 
 allows-requires : tie.Need-allows-requires
 allows-requires c κs = search needs
 
 returns : tie.Need-returns
-returns c =
-    let size = says-true (c .before .before .before .takes-size .ensures) (c .before .before .if1 .taken) in
-    taken size (says-true (c .before .allows .ensures size) (c .if2 .taken))
+returns c = house-refused (rw (c .before .refusal .given .1) at (c .before .before .before .house-slope .ensures))
 
 returns-2 : tie.Need-returns-2
-returns-2 c =
-    let size = says-true (c .before .before .before .takes-size .ensures) (c .before .before .if1 .taken) in
-    no-slope size (says-false (c .before .allows .ensures size) (c .if2 .left))
+returns-2 c = rw (c .if1 .taken) (house-taken (rw (c .before .before .house .given .1) at (c .before .before .before .before .house-slope .ensures)))
 
 returns-3 : tie.Need-returns-3
-returns-3 c = no-size (says-false (c .before .takes-size .ensures) (c .if1 .left))
+returns-3 c =
+    let size = given-size (rw (c .before .before .before .before .house .given .1) at (c .before .before .before .before .before .before .house-slope .ensures)) in
+    taken size (says-true (c .before .allows .ensures size) (c .if2 .taken))
+
+returns-4 : tie.Need-returns-4
+returns-4 c =
+    let size = given-size (rw (c .before .before .before .before .house .given .1) at (c .before .before .before .before .before .before .house-slope .ensures)) in
+    no-slope size (says-false (c .before .allows .ensures size) (c .if2 .left))
 
 pub judge-spec : {M : Type 1} → statement M
-judge-spec = tie.close (tie.spec takes-size-requires allows-requires returns returns-2 returns-3)
+judge-spec = tie.close (tie.spec house-slope-requires enum-known-refusal enum-known-house allows-requires returns returns-2 returns-3 returns-4)
