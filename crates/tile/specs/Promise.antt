@@ -3,7 +3,7 @@
 use mathlib.Core.Path.{_≡_, refl, sym, ap, _∙_}
 use mathlib.Core.Logic.{_≢_}
 use mathlib.Core.List.{List}
-use Prim.Native.Nat.{ℕ, _-_, _<_}
+use Prim.Native.Nat.{ℕ, _+_, _-_, _≤_, _<_}
 use native.Mathlib.Omega.{arith}
 use lib.ListN.{length}
 use Rattle.code.specs.Size.{Size, Allowed}
@@ -14,10 +14,10 @@ use Rattle.code.specs.Distance.{Parallel, distance}
 use Rattle.code.specs.Filling.{parallel-filled}
 use Rattle.code.specs.declared.Line.{Line}
 use Rattle.code.specs.declared.Line.the-variants.{Row, Column}
-use Rattle.tile.specs.Answer.{Said, done, clean, column, refused}
+use Rattle.tile.specs.Answer.{Said, done, clean, column, row, refused}
 use Rattle.tile.specs.Calls.{WriteTold, ReadTold, Explains, RepairTold, Has, FillTold}
 use Rattle.tile.specs.Admit.{admits, admitted-well, admitted-no}
-use Rattle.tile.specs.Explain.{good-explains}
+use Rattle.tile.specs.Explain.{good-explains, unexplained-hurt, explains-has}
 use Rattle.tile.specs.Once.{read-told-once, repair-told-once, fill-told-once}
 
 -- a tile that was written is read, and what is read is the text that was written
@@ -81,6 +81,15 @@ repair-one-cell p l i c x tile said new s w ex e g hi hc hurt same told =
     -- a line that the cell is not on does not explain it
     differs : (a : Line) (y : List ℕ) → Explains p l a tile y → (On a i c → ⊥) → ⊥
     differs a y f off = hurt (f .same i c hi hc off ∙ ap (λ (z : List ℕ). cell p z i c) (no-other p l (Column c) x tile ex g outside s w a y f))
+
+-- the line that repair names is one of the tile's
+pub column-within : {p l c : ℕ} {tile new : List ℕ} → RepairTold p l tile (column c) new → (c + 2 ≤ p) × (p ≤ 257)
+column-within {p} {l} {c} {tile} {new} (RepairTold.by-column h bad e first) = (explains-has p l (Column c) tile new bad e, admitted-well h .0 .high)
+
+pub row-within : {p l r : ℕ} {tile new : List ℕ} → RepairTold p l tile (row r) new → (r + 2 ≤ p) × (p ≤ 257)
+row-within {p} {l} {r} {tile} {new} (RepairTold.by-row h none e first) =
+    let w = admitted-well h in
+    (explains-has p l (Row r) tile new (unexplained-hurt p l (Column 0) tile (w .2) (none 0)) e, w .0 .high)
 
 -- ---- fill
 

@@ -1,0 +1,102 @@
+// The face for C and Rust, as include/counterfrost.h declares it. Each call wraps a proved one: it answers by a word, and promises what that
+// one does. None asks anything of its input.
+mod word;
+
+use reel::Found;
+use sheet::Corrected;
+ghost use Rattle.counterfrost.specs.Calls.{HouseWorded, WriteWorded, ReadWorded, RepairWorded, FillWorded, CorrectWorded, NextWorded};
+
+// The house slope of the size p.
+#[no_mangle]
+pub extern "C" fn cf_house_slope(p: usize) -> u64
+    ensures { λ r. ⌜ HouseWorded p r ⌝ }
+{
+    word::of_house(size::house_slope(p))
+}
+
+// Writes the one good tile with that text.
+#[no_mangle]
+pub extern "C" fn cf_write(p: usize, l: usize, text: &[u8], tile: &mut [u8]) -> u64
+    ensures { λ r. ⌜ WriteWorded p l (now (text .entry)) (now (tile .entry)) r (now (tile .exit)) ⌝ }
+{
+    word::of_outcome(tile::write(p, l, text, tile))
+}
+
+// Reads the text of a good tile.
+#[no_mangle]
+pub extern "C" fn cf_read(p: usize, l: usize, tile: &[u8], text: &mut [u8]) -> u64
+    ensures { λ r. ⌜ ReadWorded p l (now (tile .entry)) (now (text .entry)) r (now (text .exit)) ⌝ }
+{
+    word::of_outcome(tile::read(p, l, tile, text))
+}
+
+// Repairs one hurt column, or one hurt row.
+#[no_mangle]
+pub extern "C" fn cf_repair(p: usize, l: usize, tile: &mut [u8]) -> u64
+    ensures { λ r. ⌜ RepairWorded p l (now (tile .entry)) r (now (tile .exit)) ⌝ }
+{
+    word::of_repair(tile::repair(p, l, tile))
+}
+
+// Fills one or two flagged lines, each named by a number.
+#[no_mangle]
+pub extern "C" fn cf_fill(p: usize, l: usize, tile: &mut [u8], first: usize, second: usize) -> u64
+    ensures { λ r. ⌜ FillWorded p l (now (tile .entry)) first second r (now (tile .exit)) ⌝ }
+{
+    word::of_outcome(tile::fill(p, l, tile, word::line(first), word::line(second)))
+}
+
+// Corrects a tile by a sheet.
+#[no_mangle]
+pub extern "C" fn cf_correct(
+    p: usize,
+    l: usize,
+    tile: &mut [u8],
+    sheet: &[u8],
+    count_or_offset: &mut u64,
+) -> u64
+    ensures { λ r. ⌜ CorrectWorded p l (now (tile .entry)) (now (sheet .entry)) r (now (tile .exit)) (now («count_or_offset» .exit)) ⌝ }
+{
+    match sheet::correct(p, l, tile, sheet) {
+        Corrected::Records(count) => {
+            *count_or_offset = count as u64;
+            word::done()
+        }
+        Corrected::Refused(refusal, at) => {
+            *count_or_offset = at as u64;
+            word::refused(refusal)
+        }
+    }
+}
+
+// What stands at a place of a reel. Every number is set, to 0 where there is no value.
+#[no_mangle]
+pub extern "C" fn cf_next(
+    reel: &[u8],
+    at: usize,
+    number: &mut u64,
+    p: &mut u64,
+    l: &mut u64,
+    offset: &mut u64,
+) -> u64
+    ensures { λ r. ⌜ NextWorded (now (reel .entry)) at r (now (number .exit)) (now (p .exit)) (now (l .exit)) (now (offset .exit)) ⌝ }
+{
+    *number = 0;
+    *p = 0;
+    *l = 0;
+    *offset = 0;
+    match reel::next(reel, at) {
+        Found::Tile(tile) => {
+            *number = tile.number as u64;
+            *p = tile.p as u64;
+            *l = tile.l as u64;
+            *offset = tile.at as u64;
+            word::done()
+        }
+        Found::End => word::end(),
+        Found::Refused(refusal, from) => {
+            *offset = from as u64;
+            word::refused(refusal)
+        }
+    }
+}

@@ -1,0 +1,151 @@
+/*
+ * Counterfrost: square tiles of bytes that can be repaired.
+ *
+ * A tile holds a text and two columns of checks. If one row or one column of it is hurt, cf_repair finds the line and puts it right
+ * without being told which. If one or two lines are lost and you know which, cf_fill fills them in. cf_correct changes single bytes
+ * of the text on a tile that may itself be hurt. Where there is no answer, a call says so by a number and touches nothing.
+ *
+ * SIZES AND SLOPES
+ *   The size p of a tile is a prime from 5 to 257. The tile has p-1 rows and p-1 columns of bytes, laid row by row: (p-1)*(p-1)
+ *   bytes. Its text has p-1 rows of p-3 bytes, laid row by row: (p-1)*(p-3) bytes. It stands in the tile's columns 0 to p-4; the
+ *   checks are in columns p-3 and p-2. Rows and columns count from 0.
+ *   The slope l is a number from 2 to p-2 of which the powers modulo p reach each of 1 to p-1. If nothing else is agreed, use the
+ *   house slope that cf_house_slope gives. A tile is read and repaired with the size and slope with which it was written.
+ *
+ * ANSWERS
+ *   Every call answers one 64-bit word: a kind, and two numbers. cf_kind, cf_first and cf_second take it apart.
+ *
+ *     kind         first          means
+ *     CF_DONE      0              done; for cf_repair: nothing was hurt; for cf_next: a tile stands here
+ *     CF_DONE      the slope      for cf_house_slope only
+ *     CF_COLUMN    the column     cf_repair put this column right
+ *     CF_ROW       the row        cf_repair put this row right
+ *     CF_REFUSED   the number     refused; see below
+ *     CF_END       0              cf_next: the reel ends here
+ *
+ *   The second number is 0 in each of these. CF_CELL is kept for a later answer, with the row first and the column second.
+ *
+ * REFUSALS
+ *   A refused call changes no byte of a tile or text. Its number says why. Where several apply, the one that the call's own text below
+ *   names first is given.
+ *
+ *     1 CF_BAD_SIZE     p is no prime from 5 to 257
+ *     2 CF_BAD_SLOPE    l is not from 2 to p-2, or its powers miss a remainder
+ *     3 CF_BAD_LENGTH   a tile or a text has the wrong length for p
+ *     4 CF_BAD_PLACE    a line to fill is above p-2, or a correction names a row above p-2 or a column above p-4
+ *     5 CF_DAMAGED      cf_read: the tile is not good; cf_repair, cf_fill: no repair of that kind exists
+ *     6 CF_BAD_MARK     a record of a sheet or of a reel does not begin with its mark
+ *     7 CF_CUT_SHORT    a sheet's length is no multiple of 8, or a reel ends within a record
+ *
+ * WHO OWNS WHAT
+ *   All memory is yours. A call uses it until it returns, and keeps no pointer; it allocates nothing, and holds no state, so calls may
+ *   run on several threads at once, each on memory of its own. It needs less than six kilobytes of stack. Each pointer must point to as
+ *   many bytes as its length says, and must not be null, not even where the length is 0. What is written to (a tile, a text, a
+ *   number) must not overlap anything else that is lent to the same call. What is const is not changed.
+ *
+ * Each call is proved to do what is said here, for every size, slope, length and byte: in the repository, crates/counterfrost holds
+ * the code and docs/PROMISES.md says what is shown.
+ */
+#ifndef COUNTERFROST_H
+#define COUNTERFROST_H
+
+#include <stddef.h>
+#include <stdint.h>
+
+#ifdef __cplusplus
+extern "C" {
+#endif
+
+/* The kinds of an answer. */
+#define CF_DONE 0u
+#define CF_COLUMN 1u
+#define CF_ROW 2u
+#define CF_CELL 3u
+#define CF_REFUSED 4u
+#define CF_END 7u
+
+/* The numbers of a refusal. */
+#define CF_BAD_SIZE 1u
+#define CF_BAD_SLOPE 2u
+#define CF_BAD_LENGTH 3u
+#define CF_BAD_PLACE 4u
+#define CF_DAMAGED 5u
+#define CF_BAD_MARK 6u
+#define CF_CUT_SHORT 7u
+
+/* The house slope of the size p: the smallest slope that p allows. CF_DONE with the slope, or refused 1. */
+uint64_t cf_house_slope(size_t p);
+
+/* Writes the one good tile with that text; what the tile held before does not matter. CF_DONE, or refused 1, 2 or 3. */
+uint64_t cf_write(size_t p, size_t l, const uint8_t *text, size_t text_len, uint8_t *tile, size_t tile_len);
+
+/* Reads the text of a good tile. CF_DONE, or refused 1, 2, 3, or 5 for a tile that is not good: repair that one first. */
+uint64_t cf_read(size_t p, size_t l, const uint8_t *tile, size_t tile_len, uint8_t *text, size_t text_len);
+
+/*
+ * Repairs a tile of which one column or one row may be hurt. CF_DONE: it is good, and was not touched. CF_COLUMN or CF_ROW: a good
+ * tile differs from it in that line alone, and the tile is now that one. Columns are tried first, from 0 upward, then rows; a lone hurt
+ * byte is therefore told as its column. Refused 1, 2, 3, or 5 where no good tile differs from it in one line alone.
+ *
+ * Two hurt lines can look like one. A tile that is repaired is good; that it is the tile that was printed, nobody can promise if more
+ * than one line was hurt.
+ */
+uint64_t cf_repair(size_t p, size_t l, uint8_t *tile, size_t tile_len);
+
+/*
+ * Fills one or two lost lines, whatever bytes they hold now. Each line is named by cf_row or cf_column (a row by its number, a column by
+ * 8000 hex plus its number); for one line, name it twice. The tile becomes the one good tile that agrees with it elsewhere. CF_DONE, or
+ * refused 1, 2, 3, 4 for a line that the tile does not have, or 5 where there is no such tile. Two rows, or two columns, can always be
+ * filled.
+ */
+uint64_t cf_fill(size_t p, size_t l, uint8_t *tile, size_t tile_len, size_t first, size_t second);
+
+/*
+ * Corrects the text of a tile by a sheet: a run of records of 8 bytes, each the mark C3 3C, a row (2 bytes, the high one first), a
+ * column (2 bytes), the byte that was, and the byte that is to be. The tile need not be good: each record changes its cell, and the
+ * check columns, by the difference of its two bytes, so that what was hurt before can be repaired as before. The byte that was is not
+ * compared with the tile.
+ *
+ * CF_DONE, with the number of records in *count_or_offset. Refused 1, 2, 3 or 7, with 0 there; or 6 or 4, with the offset of the first
+ * faulty record (6 if that record has both faults). The whole sheet is judged before the tile is touched. *count_or_offset is set by every call.
+ */
+uint64_t cf_correct(size_t p, size_t l, uint8_t *tile, size_t tile_len, const uint8_t *sheet, size_t sheet_len,
+                    uint64_t *count_or_offset);
+
+/*
+ * Says what stands at a place of a reel. A reel is a run of records without gaps, each the mark D5 5D, p (2 bytes, the high one first),
+ * l (2 bytes), the tile's number (4 bytes), and the tile's bytes. Offsets count from the reel's first byte; begin with place 0.
+ *
+ * CF_DONE: a tile, with its number, p and l, and the offset of its bytes; the next record stands at that offset plus cf_tile_len(p).
+ * CF_END: the place is at or past the reel's end. Refused 7 (fewer than 10 bytes are left), 6, 1, 2, or 7 (fewer than the tile needs),
+ * with the place itself in *offset. All four numbers are set by every call, to 0 where there is no value. The tile is not judged: it
+ * may be hurt. To repair it, copy its bytes first, or let the reel be yours to change.
+ */
+uint64_t cf_next(const uint8_t *reel, size_t reel_len, size_t at, uint64_t *number, uint64_t *p, uint64_t *l, uint64_t *offset);
+
+/* The kind of an answer, and its two numbers. */
+static inline unsigned cf_kind(uint64_t answer) { return (unsigned)(answer >> 32); }
+
+static inline unsigned cf_first(uint64_t answer) { return (unsigned)(answer >> 16 & 0xffffu); }
+
+static inline unsigned cf_second(uint64_t answer) { return (unsigned)(answer & 0xffffu); }
+
+/* The number of a refusal; 0 where the answer is none. */
+static inline unsigned cf_refusal(uint64_t answer) { return cf_kind(answer) == CF_REFUSED ? cf_first(answer) : 0u; }
+
+/* The name of a row and of a column, for cf_fill. A number of 7fff hex or more is named as 7fff hex: no tile has that line, and it is
+ * refused 4. */
+static inline size_t cf_row(size_t row) { return row < 0x7fffu ? row : 0x7fffu; }
+
+static inline size_t cf_column(size_t column) { return 0x8000u + (column < 0x7fffu ? column : 0x7fffu); }
+
+/* How many bytes a tile of size p has, and its text, for p from 5 to 257. */
+static inline size_t cf_tile_len(size_t p) { return (p - 1) * (p - 1); }
+
+static inline size_t cf_text_len(size_t p) { return (p - 1) * (p - 3); }
+
+#ifdef __cplusplus
+}
+#endif
+
+#endif
