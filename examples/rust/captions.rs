@@ -1,0 +1,50 @@
+//! The life of one tile, as examples/c/captions.c tells it, from Rust.
+mod counterfrost;
+
+use counterfrost::{Line, Refused};
+
+/// A tile of size 17: 16 rows of 16 bytes, of which 14 are text.
+const SIZE: usize = 17;
+const ROWS: usize = SIZE - 1;
+const COLUMNS: usize = SIZE - 1;
+const TEXT_COLUMNS: usize = SIZE - 3;
+
+const CAPTION: &str = "- Who let the boat go?\n- The ferryman, at noom.\n- Then who is that on the far shore?";
+
+/// What a scratch does to a column.
+fn scratch(tile: &mut [u8], column: usize) {
+    for row in 0..ROWS {
+        tile[row * COLUMNS + column] ^= 0x55 + row as u8;
+    }
+}
+
+fn main() -> Result<(), Refused> {
+    let slope = counterfrost::house_slope(SIZE)?;
+    let mut text = [b' '; ROWS * TEXT_COLUMNS];
+    text[..CAPTION.len()].copy_from_slice(CAPTION.as_bytes());
+    let mut tile = [0; ROWS * COLUMNS];
+    counterfrost::write(SIZE, slope, &text, &mut tile)?;
+    println!("written: size {SIZE}, slope {slope}");
+
+    tile[4 * COLUMNS..5 * COLUMNS].fill(0);
+    scratch(&mut tile, 9);
+    counterfrost::fill(SIZE, slope, &mut tile, Line::Row(4), Line::Column(9))?;
+    println!("filled: row 4 and column 9");
+
+    let wrong_letter = CAPTION.find("noom").unwrap() + 3;
+    let (row, column) = (wrong_letter / TEXT_COLUMNS, wrong_letter % TEXT_COLUMNS);
+    scratch(&mut tile, column);
+    let record = [0xC3, 0x3C, 0, row as u8, 0, column as u8, b'm', b'n'];
+    let records = counterfrost::correct(SIZE, slope, &mut tile, &record)?;
+    println!("corrected: {records} letter");
+
+    match counterfrost::repair(SIZE, slope, &mut tile)? {
+        Some(Line::Column(column)) => println!("repaired: column {column}"),
+        Some(Line::Row(row)) => println!("repaired: row {row}"),
+        None => println!("clean"),
+    }
+
+    counterfrost::read(SIZE, slope, &tile, &mut text)?;
+    println!("read:\n{}", String::from_utf8_lossy(&text[..CAPTION.len()]));
+    Ok(())
+}

@@ -1,0 +1,98 @@
+//! The calls of include/counterfrost.h for Rust. A slice is never null and says its own length, and the borrows rule out overlaps: all
+//! that the header asks of a caller is seen to here, so the functions are safe.
+#![allow(dead_code)]
+
+mod c {
+    extern "C" {
+        pub fn cf_house_slope(p: usize) -> u64;
+        pub fn cf_write(p: usize, l: usize, text: *const u8, text_len: usize, tile: *mut u8, tile_len: usize) -> u64;
+        pub fn cf_read(p: usize, l: usize, tile: *const u8, tile_len: usize, text: *mut u8, text_len: usize) -> u64;
+        pub fn cf_repair(p: usize, l: usize, tile: *mut u8, tile_len: usize) -> u64;
+        pub fn cf_fill(p: usize, l: usize, tile: *mut u8, tile_len: usize, first: usize, second: usize) -> u64;
+        pub fn cf_correct(p: usize, l: usize, tile: *mut u8, tile_len: usize, sheet: *const u8, sheet_len: usize, count_or_offset: &mut u64) -> u64;
+        pub fn cf_next(reel: *const u8, reel_len: usize, at: usize, number: &mut u64, p: &mut u64, l: &mut u64, offset: &mut u64) -> u64;
+    }
+}
+
+/// Why a call says no: the number, and in a sheet or a reel the offset of the faulty record.
+#[derive(Debug, PartialEq, Eq)]
+pub struct Refused {
+    pub number: u16,
+    pub offset: u64,
+}
+
+/// A row or a column of a tile.
+#[derive(Clone, Copy, Debug, PartialEq, Eq)]
+pub enum Line {
+    Row(u8),
+    Column(u8),
+}
+
+/// A tile on a reel: its number, size and slope, and the offset of its bytes.
+#[derive(Debug, PartialEq, Eq)]
+pub struct Tile {
+    pub number: u64,
+    pub p: u64,
+    pub l: u64,
+    pub offset: u64,
+}
+
+/// The kind and the first number of an answer that is no refusal.
+fn taken(answer: u64, offset: u64) -> Result<(u64, u16), Refused> {
+    let (kind, first) = (answer >> 32, (answer >> 16 & 0xffff) as u16);
+    if kind == 4 {
+        Err(Refused { number: first, offset })
+    } else {
+        Ok((kind, first))
+    }
+}
+
+fn name(line: Line) -> usize {
+    match line {
+        Line::Row(r) => usize::from(r),
+        Line::Column(c) => 0x8000 + usize::from(c),
+    }
+}
+
+/// The house slope of the size p.
+pub fn house_slope(p: usize) -> Result<usize, Refused> {
+    taken(unsafe { c::cf_house_slope(p) }, 0).map(|(_, slope)| usize::from(slope))
+}
+
+/// Writes the one good tile with that text.
+pub fn write(p: usize, l: usize, text: &[u8], tile: &mut [u8]) -> Result<(), Refused> {
+    taken(unsafe { c::cf_write(p, l, text.as_ptr(), text.len(), tile.as_mut_ptr(), tile.len()) }, 0).map(|_| ())
+}
+
+/// Reads the text of a good tile.
+pub fn read(p: usize, l: usize, tile: &[u8], text: &mut [u8]) -> Result<(), Refused> {
+    taken(unsafe { c::cf_read(p, l, tile.as_ptr(), tile.len(), text.as_mut_ptr(), text.len()) }, 0).map(|_| ())
+}
+
+/// Repairs one hurt column, or one hurt row, and names it; nothing where the tile is good.
+pub fn repair(p: usize, l: usize, tile: &mut [u8]) -> Result<Option<Line>, Refused> {
+    taken(unsafe { c::cf_repair(p, l, tile.as_mut_ptr(), tile.len()) }, 0).map(|(kind, first)| match kind {
+        1 => Some(Line::Column(first as u8)),
+        2 => Some(Line::Row(first as u8)),
+        _ => None,
+    })
+}
+
+/// Fills one or two lost lines; one line is named twice.
+pub fn fill(p: usize, l: usize, tile: &mut [u8], first: Line, second: Line) -> Result<(), Refused> {
+    taken(unsafe { c::cf_fill(p, l, tile.as_mut_ptr(), tile.len(), name(first), name(second)) }, 0).map(|_| ())
+}
+
+/// Corrects a tile, sound or damaged, by a sheet, and counts its records.
+pub fn correct(p: usize, l: usize, tile: &mut [u8], sheet: &[u8]) -> Result<u64, Refused> {
+    let mut told = 0;
+    let answer = unsafe { c::cf_correct(p, l, tile.as_mut_ptr(), tile.len(), sheet.as_ptr(), sheet.len(), &mut told) };
+    taken(answer, told).map(|_| told)
+}
+
+/// What stands at a place of a reel: a tile, or nothing at the end.
+pub fn next(reel: &[u8], at: usize) -> Result<Option<Tile>, Refused> {
+    let (mut number, mut p, mut l, mut offset) = (0, 0, 0, 0);
+    let answer = unsafe { c::cf_next(reel.as_ptr(), reel.len(), at, &mut number, &mut p, &mut l, &mut offset) };
+    taken(answer, offset).map(|(kind, _)| (kind == 0).then_some(Tile { number, p, l, offset }))
+}

@@ -1,0 +1,16 @@
+/* The cases, by subject. Each function asks its questions of both sides, always the same ones. */
+
+#ifndef CASES_H
+#define CASES_H
+
+void cases_header(void);
+void cases_worked(void);
+void cases_size(void);
+void cases_tile(void);
+void cases_repair(void);
+void cases_fill(void);
+void cases_sheet(void);
+void cases_reel(void);
+void cases_edges(void);
+
+#endif

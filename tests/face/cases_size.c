@@ -1,0 +1,81 @@
+/* Which sizes and slopes are taken, by each call that is told them. */
+
+#include <stddef.h>
+#include <stdint.h>
+
+#include "ask.h"
+#include "cases.h"
+#include "made.h"
+
+/* Sizes are tried from 0 on up to here. */
+enum { LAST_TRIED = 300, LONGEST_TILE = (LAST_TRIED - 1) * (LAST_TRIED - 1) };
+
+static uint8_t tile[LONGEST_TILE], text[LONGEST_TILE];
+
+/* All tile calls, with lengths that are right if p is a size at all. */
+static void ask_tile_calls(size_t p, size_t l, size_t tile_len, size_t text_len)
+{
+    static const uint8_t sheet[8] = {0xC3, 0x3C, 0, 0, 0, 0, 0, 1};
+    uint64_t count;
+    ask_write(p, l, text, text_len, tile, tile_len);
+    ask_read(p, l, tile, tile_len, text, text_len);
+    ask_repair(p, l, tile, tile_len);
+    ask_fill(p, l, tile, tile_len, row_name(1), column_name(2));
+    ask_correct(p, l, tile, tile_len, sheet, sizeof sheet, &count);
+}
+
+/* A reel that holds a record's header alone is refused with 1, 2 or 7: so each slope of each size is judged at little cost. */
+static void ask_header(size_t p, size_t l)
+{
+    uint8_t header[10] = {0xD5, 0x5D, (uint8_t)(p >> 8), (uint8_t)p, (uint8_t)(l >> 8), (uint8_t)l, 0, 0, 0, 1};
+    struct found found;
+    ask_next(header, sizeof header, 0, &found);
+}
+
+static void each_number_as_size(void)
+{
+    for (size_t p = 0; p <= LAST_TRIED; p++) {
+        ask_house_slope(p);
+        ask_header(p, 2);
+        ask_header(p, 3);
+        if (p >= 3)
+            ask_tile_calls(p, is_size(p) ? house_slope(p) : 2, tile_length(p), text_length(p));
+        else
+            ask_tile_calls(p, 2, 1, 1);
+    }
+}
+
+static void each_slope_of_each_size(void)
+{
+    for (size_t p = size_above(0); p != 0; p = size_above(p))
+        for (size_t l = 0; l <= p + 3; l++)
+            ask_header(p, l);
+}
+
+static void each_slope_in_tile_calls(void)
+{
+    for (size_t p = size_above(0); p <= SMALL_SIZE; p = size_above(p))
+        for (size_t l = 0; l <= 2 * p + 1; l++)
+            ask_tile_calls(p, l, tile_length(p), text_length(p));
+}
+
+static void far_sizes_and_slopes(void)
+{
+    for (size_t k = 0; k < FAR_NUMBERS; k++) {
+        ask_house_slope(far_numbers[k]);
+        ask_tile_calls(far_numbers[k], 2, 16, 8);
+        ask_tile_calls(5, far_numbers[k], 16, 8);
+        ask_tile_calls(7, far_numbers[k], 36, 24);
+        ask_tile_calls(257, far_numbers[k], 65536, 65024);
+        ask_tile_calls(far_numbers[k], far_numbers[k], 16, 8);
+        ask_tile_calls(far_numbers[k], far_numbers[k] - 2, 16, 8);
+    }
+}
+
+void cases_size(void)
+{
+    each_number_as_size();
+    each_slope_of_each_size();
+    each_slope_in_tile_calls();
+    far_sizes_and_slopes();
+}

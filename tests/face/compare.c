@@ -1,0 +1,30 @@
+/* Calls the library and the peer on the same input, some hundred thousand times, and compares. Prints each difference, up to twenty, and
+ * a closing line. The exit status is 0 only where nothing differed, and enough was asked. */
+
+#include <stddef.h>
+
+#include "cases.h"
+#include "differences.h"
+
+int main(void)
+{
+    static const struct {
+        const char *subject;
+        void (*cases)(void);
+    } subjects[] = {
+        {"the header's small functions", cases_header},
+        {"the worked tiles of document 01", cases_worked},
+        {"sizes and slopes", cases_size},
+        {"writing and reading", cases_tile},
+        {"repair", cases_repair},
+        {"fill", cases_fill},
+        {"correction sheets", cases_sheet},
+        {"reels", cases_reel},
+        {"edges, and two faults at once", cases_edges},
+    };
+    for (size_t k = 0; k < sizeof subjects / sizeof subjects[0]; k++) {
+        begin_subject(subjects[k].subject);
+        subjects[k].cases();
+    }
+    return close_comparison();
+}

@@ -1,0 +1,141 @@
+/* What the cases are made of: see made.h. */
+
+#include "made.h"
+
+#include <string.h>
+
+#include "peer_tile.h"
+
+const size_t far_numbers[FAR_NUMBERS] = {
+    SIZE_MAX,
+    SIZE_MAX - 1,
+    SIZE_MAX - 2,
+    SIZE_MAX - 4,
+    SIZE_MAX - 256,
+    ((size_t)1 << 63) + 5,
+    (size_t)1 << 63,
+    ((size_t)1 << 63) - 1,
+    ((size_t)1 << 32) + 257,
+    ((size_t)1 << 32) + 7,
+    ((size_t)1 << 32) + 5,
+    ((size_t)1 << 32) + 2,
+    (size_t)1 << 32,
+    ((size_t)1 << 32) - 1,
+    (size_t)1 << 31,
+    65536 + 257,
+    65536 + 5,
+    65536 + 2,
+    65536,
+    65535,
+};
+
+size_t size_above(size_t p)
+{
+    while (p++ < LARGEST_SIZE)
+        if (is_size(p))
+            return p;
+    return 0;
+}
+
+size_t slope_above(size_t p, size_t l)
+{
+    while (l++ < p)
+        if (allows(p, l))
+            return l;
+    return 0;
+}
+
+size_t house_slope(size_t p)
+{
+    return slope_above(p, 0);
+}
+
+static size_t largest_slope(size_t p)
+{
+    size_t slope = p - 2;
+    while (!allows(p, slope))
+        slope--;
+    return slope;
+}
+
+size_t some_slope(struct chance *chance, size_t p)
+{
+    size_t slope = slope_above(p, chance_below(chance, p));
+    return slope != 0 ? slope : house_slope(p);
+}
+
+void for_small_sizes(size_t largest, void (*with)(size_t p, size_t l))
+{
+    for (size_t p = size_above(0); p <= largest; p = size_above(p))
+        for (size_t l = house_slope(p); l != 0; l = slope_above(p, l))
+            with(p, l);
+}
+
+void for_all_sizes(struct chance *chance, void (*with)(size_t p, size_t l))
+{
+    for (size_t p = size_above(0); p != 0; p = size_above(p)) {
+        with(p, house_slope(p));
+        with(p, largest_slope(p));
+        with(p, some_slope(chance, p));
+    }
+}
+
+void make_text(struct chance *chance, size_t p, enum text_kind kind, uint8_t *text)
+{
+    static const uint8_t byte_of_kind[TEXT_KINDS] = {0x00, 0xFF, 0x01, 0x00};
+    if (kind == TEXT_OF_ANY)
+        chance_bytes(chance, text, text_length(p));
+    else
+        memset(text, byte_of_kind[kind], text_length(p));
+}
+
+void make_tile(struct chance *chance, size_t p, size_t l, uint8_t *tile)
+{
+    static uint8_t text[LARGEST_TEXT];
+    make_text(chance, p, TEXT_OF_ANY, text);
+    make_good(p, l, text, tile);
+}
+
+size_t row_name(size_t row)
+{
+    return row;
+}
+
+size_t column_name(size_t column)
+{
+    return 0x8000 + column;
+}
+
+size_t some_row(struct chance *chance, size_t p)
+{
+    return row_name(chance_below(chance, p - 1));
+}
+
+size_t some_column(struct chance *chance, size_t p)
+{
+    return column_name(chance_below(chance, p - 1));
+}
+
+static uint8_t *nth_of_line(size_t p, uint8_t *tile, size_t line, size_t n)
+{
+    return line < 0x8000 ? &tile[line * (p - 1) + n] : &tile[n * (p - 1) + (line - 0x8000)];
+}
+
+void hurt_line(struct chance *chance, size_t p, uint8_t *tile, size_t line, enum hurt hurt)
+{
+    uint8_t change = chance_change(chance);
+    size_t first = chance_below(chance, p - 1);
+    for (size_t n = 0; n < p - 1; n++) {
+        uint8_t any = (uint8_t)chance_below(chance, 256);
+        if (n == first || hurt == HURT_ALIKE)
+            *nth_of_line(p, tile, line, n) ^= change;
+        else if (hurt == HURT_ANY)
+            *nth_of_line(p, tile, line, n) ^= any;
+    }
+}
+
+void hurt_cells(struct chance *chance, size_t p, uint8_t *tile, size_t count)
+{
+    for (size_t k = 0; k < count; k++)
+        tile[chance_below(chance, tile_length(p))] ^= chance_change(chance);
+}

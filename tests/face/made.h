@@ -1,0 +1,58 @@
+/* What the cases are made of: sizes and slopes to go through, texts, good tiles, and damage. */
+
+#ifndef MADE_H
+#define MADE_H
+
+#include <stddef.h>
+#include <stdint.h>
+
+#include "chance.h"
+#include "peer_rules.h"
+
+/* Up to this size every allowed slope is tried. */
+enum { SMALL_SIZE = 31 };
+
+/* Numbers far above every size, slope, line and length, down from the largest; some of them are 2, 5, 7 or 257 in their low bits. */
+enum { FAR_NUMBERS = 20 };
+extern const size_t far_numbers[FAR_NUMBERS];
+
+/* The smallest size above p, or 0 where there is none. */
+size_t size_above(size_t p);
+
+/* The smallest slope above l that the size p allows, or 0 where there is none. */
+size_t slope_above(size_t p, size_t l);
+
+size_t house_slope(size_t p);
+size_t some_slope(struct chance *chance, size_t p);
+
+/* Does the same with every size up to a largest, which is below 257, and each slope that it allows. */
+void for_small_sizes(size_t largest, void (*with)(size_t p, size_t l));
+
+/* Does the same with every size, with the smallest slope that it allows, the largest, and any. */
+void for_all_sizes(struct chance *chance, void (*with)(size_t p, size_t l));
+
+/* The texts that are tried: each byte 0, each FF hex, each 1, any. */
+enum text_kind { TEXT_OF_ZEROS, TEXT_OF_FF, TEXT_OF_ONES, TEXT_OF_ANY, TEXT_KINDS };
+
+void make_text(struct chance *chance, size_t p, enum text_kind kind, uint8_t *text);
+
+/* The good tile of a text of any bytes. */
+void make_tile(struct chance *chance, size_t p, size_t l, uint8_t *tile);
+
+/* A line as cf_fill is told it. */
+size_t row_name(size_t row);
+size_t column_name(size_t column);
+
+/* A row or a column of a tile of size p. */
+size_t some_row(struct chance *chance, size_t p);
+size_t some_column(struct chance *chance, size_t p);
+
+/* Changes one cell of a line, every cell by the same byte, or the cells by any bytes, at least one of them. */
+enum hurt { HURT_ONE, HURT_ALIKE, HURT_ANY, HURTS };
+
+void hurt_line(struct chance *chance, size_t p, uint8_t *tile, size_t line, enum hurt hurt);
+
+/* Changes some cells, which need not be different ones. */
+void hurt_cells(struct chance *chance, size_t p, uint8_t *tile, size_t count);
+
+#endif

@@ -1,0 +1,46 @@
+/* The peer's reel: what stands at a place, read byte by byte. */
+
+#include "peer.h"
+#include "peer_rules.h"
+
+enum { HEADER = 10 };
+
+/* A number of some bytes, the high byte first. */
+static uint64_t number_of(const uint8_t *bytes, size_t count)
+{
+    uint64_t value = 0;
+    for (size_t k = 0; k < count; k++)
+        value = value * 256 + bytes[k];
+    return value;
+}
+
+/* Judges a record, of which the given count of bytes is there: 7 for the header, 6, 1, 2, 7 for the body. */
+static enum refusal judge_record(const uint8_t *record, size_t there)
+{
+    if (there < HEADER)
+        return CUT_SHORT;
+    if (record[0] != 0xD5 || record[1] != 0x5D)
+        return BAD_MARK;
+    size_t p = number_of(&record[2], 2), l = number_of(&record[4], 2);
+    enum refusal refusal = judge_slope(p, l);
+    if (refusal == ACCEPTED && there - HEADER < tile_length(p))
+        return CUT_SHORT;
+    return refusal;
+}
+
+uint64_t peer_next(const uint8_t *reel, size_t reel_len, size_t at, uint64_t *number, uint64_t *p, uint64_t *l, uint64_t *offset)
+{
+    *number = *p = *l = *offset = 0;
+    if (at >= reel_len)
+        return word_end();
+    enum refusal refusal = judge_record(&reel[at], reel_len - at);
+    if (refusal != ACCEPTED) {
+        *offset = at;
+        return word_refused(refusal);
+    }
+    *p = number_of(&reel[at + 2], 2);
+    *l = number_of(&reel[at + 4], 2);
+    *number = number_of(&reel[at + 6], 4);
+    *offset = at + HEADER;
+    return word_done();
+}
