@@ -1,0 +1,215 @@
+/* The jobs of the tile calls and of the sheet: the same ten for the library and for the independent implementation, whose
+ * calls have the same parameters. */
+
+#include <string.h>
+
+#include "counterfrost.h"
+#include "job.h"
+#include "material.h"
+#include "peer.h"
+
+enum { RECORD = 8, RANDOM_FOR_RECORD = 5, DAMAGE_SEED = 3, SHEET_SEED = 4 };
+
+/* The calls of one implementation. */
+struct calls {
+    uint64_t (*write)(size_t, size_t, const uint8_t *, size_t, uint8_t *, size_t);
+    uint64_t (*read)(size_t, size_t, const uint8_t *, size_t, uint8_t *, size_t);
+    uint64_t (*repair)(size_t, size_t, uint8_t *, size_t);
+    uint64_t (*fill)(size_t, size_t, uint8_t *, size_t, size_t, size_t);
+    uint64_t (*correct)(size_t, size_t, uint8_t *, size_t, const uint8_t *, size_t, uint64_t *);
+};
+
+/* What a job's call is given besides the copy. Each job uses the part that it needs. */
+struct given {
+    const struct calls *calls;
+    uint8_t *text;
+    uint8_t *tile;
+    size_t first, second; /* the flagged lines */
+    uint8_t *sheet;
+    size_t sheet_length;
+};
+
+static uint64_t call_write(const struct job *job, uint8_t *copy)
+{
+    const struct given *given = job->given;
+
+    return given->calls->write(job->p, SLOPE, given->text, cf_text_len(job->p), copy, job->length);
+}
+
+static uint64_t call_read(const struct job *job, uint8_t *copy)
+{
+    const struct given *given = job->given;
+
+    return given->calls->read(job->p, SLOPE, given->tile, cf_tile_len(job->p), copy, job->length);
+}
+
+static uint64_t call_repair(const struct job *job, uint8_t *copy)
+{
+    const struct given *given = job->given;
+
+    return given->calls->repair(job->p, SLOPE, copy, job->length);
+}
+
+static uint64_t call_fill(const struct job *job, uint8_t *copy)
+{
+    const struct given *given = job->given;
+
+    return given->calls->fill(job->p, SLOPE, copy, job->length, given->first, given->second);
+}
+
+/* Answers the count of records; for anything but Done, a number that no sheet has as its count. */
+static uint64_t call_correct(const struct job *job, uint8_t *copy)
+{
+    const struct given *given = job->given;
+    uint64_t count;
+    uint64_t word = given->calls->correct(job->p, SLOPE, copy, job->length, given->sheet, given->sheet_length, &count);
+
+    return word == 0 ? count : UINT64_MAX;
+}
+
+/* An answer as the calls give it, put together here from its parts. */
+static uint64_t answer_of(uint64_t kind, uint64_t first) { return kind << 32 | first << 16; }
+
+static void damage_column(uint8_t *tile, size_t p, size_t column)
+{
+    uint8_t change[257];
+
+    put_random(change, p - 1, DAMAGE_SEED + column);
+    for (size_t row = 0; row < p - 1; row++)
+        tile[row * (p - 1) + column] ^= change[row];
+}
+
+static void damage_row(uint8_t *tile, size_t p, size_t row)
+{
+    uint8_t change[257];
+
+    put_random(change, p - 1, DAMAGE_SEED + row);
+    for (size_t column = 0; column < p - 1; column++)
+        tile[row * (p - 1) + column] ^= change[column];
+}
+
+static void prepare_write(struct job *job, struct given *given)
+{
+    job->call = call_write;
+    job->before = new_waste(cf_tile_len(job->p));
+    job->after = given->tile;
+}
+
+static void prepare_read(struct job *job, struct given *given)
+{
+    job->call = call_read;
+    job->length = cf_text_len(job->p);
+    job->before = new_waste(job->length);
+    job->after = given->text;
+}
+
+/* A repair of the tile as `damaged` holds it, which has to answer `answer`. */
+static void prepare_repair(struct job *job, struct given *given, uint8_t *damaged, uint64_t answer)
+{
+    job->call = call_repair;
+    job->before = damaged;
+    job->after = given->tile;
+    job->answer = answer;
+}
+
+/* A filling of two lines, each lost as a whole. */
+static void prepare_fill(struct job *job, struct given *given, uint8_t *damaged, size_t first, size_t second)
+{
+    job->call = call_fill;
+    job->before = damaged;
+    job->after = given->tile;
+    given->first = first;
+    given->second = second;
+}
+
+/* Puts one record into the sheet and its correction into the text: a place, the byte there now, and another byte. */
+static void put_record(uint8_t *record, uint8_t *text, size_t p, const uint8_t *random)
+{
+    size_t row = (random[0] * 256u + random[1]) % (p - 1);
+    size_t column = (random[2] * 256u + random[3]) % (p - 3);
+    uint8_t *was = text + row * (p - 3) + column;
+    uint8_t is = (uint8_t)(*was ^ random[4]);
+    const uint8_t bytes[RECORD] = {
+        0xc3, 0x3c, (uint8_t)(row >> 8), (uint8_t)row, (uint8_t)(column >> 8), (uint8_t)column, *was, is,
+    };
+
+    memcpy(record, bytes, RECORD);
+    *was = is;
+}
+
+static void prepare_correct(struct job *job, struct given *given, size_t records)
+{
+    uint8_t *text = new_copy(given->text, cf_text_len(job->p));
+    uint8_t *random = new_memory(RANDOM_FOR_RECORD * records);
+
+    put_random(random, RANDOM_FOR_RECORD * records, SHEET_SEED);
+    given->sheet_length = RECORD * records;
+    given->sheet = new_memory(given->sheet_length);
+    for (size_t i = 0; i < records; i++)
+        put_record(given->sheet + RECORD * i, text, job->p, random + RANDOM_FOR_RECORD * i);
+    job->call = call_correct;
+    job->before = given->tile;
+    job->after = new_tile(job->p, text);
+    job->answer = records;
+}
+
+/* The jobs by name. A lone hurt line is the last of its kind, where the search comes last; lost lines lie a third and two
+ * thirds of the way. */
+static bool prepare_tile_job(const struct calls *calls, const char *name, size_t p, struct job *job)
+{
+    struct given *given = new_memory(sizeof *given);
+    size_t last = p - 2, third = p / 3, two_thirds = 2 * p / 3;
+    uint8_t *hurt;
+
+    given->calls = calls;
+    given->text = new_text(p);
+    given->tile = new_tile(p, given->text);
+    hurt = new_copy(given->tile, cf_tile_len(p));
+    *job = (struct job){ .given = given, .p = p, .length = cf_tile_len(p), .answer = answer_of(CF_DONE, 0) };
+    if (strcmp(name, "write") == 0) {
+        prepare_write(job, given);
+    } else if (strcmp(name, "read") == 0) {
+        prepare_read(job, given);
+    } else if (strcmp(name, "repair-clean") == 0) {
+        prepare_repair(job, given, hurt, answer_of(CF_DONE, 0));
+    } else if (strcmp(name, "repair-column") == 0) {
+        damage_column(hurt, p, last);
+        prepare_repair(job, given, hurt, answer_of(CF_COLUMN, last));
+    } else if (strcmp(name, "repair-row") == 0) {
+        damage_row(hurt, p, last);
+        prepare_repair(job, given, hurt, answer_of(CF_ROW, last));
+    } else if (strcmp(name, "fill-columns") == 0) {
+        damage_column(hurt, p, third);
+        damage_column(hurt, p, two_thirds);
+        prepare_fill(job, given, hurt, cf_column(third), cf_column(two_thirds));
+    } else if (strcmp(name, "fill-rows") == 0) {
+        damage_row(hurt, p, third);
+        damage_row(hurt, p, two_thirds);
+        prepare_fill(job, given, hurt, cf_row(third), cf_row(two_thirds));
+    } else if (strcmp(name, "fill-crossed") == 0) {
+        damage_row(hurt, p, third);
+        damage_column(hurt, p, two_thirds);
+        prepare_fill(job, given, hurt, cf_row(third), cf_column(two_thirds));
+    } else if (strcmp(name, "correct-1") == 0) {
+        prepare_correct(job, given, 1);
+    } else if (strcmp(name, "correct-100") == 0) {
+        prepare_correct(job, given, 100);
+    } else {
+        return false;
+    }
+    return true;
+}
+
+bool prepare_counterfrost(const char *name, size_t p, struct job *job)
+{
+    static const struct calls calls = { cf_write, cf_read, cf_repair, cf_fill, cf_correct };
+
+    return prepare_tile_job(&calls, name, p, job);
+}
+
+bool prepare_peer(const char *name, size_t p, struct job *job)
+{
+    static const struct calls calls = { peer_write, peer_read, peer_repair, peer_fill, peer_correct };
+
+    return prepare_tile_job(&calls, name, p, job);
+}
