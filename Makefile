@@ -32,7 +32,7 @@ target/bin/list:
 	@said=$$(rt check list 2>&1) || { echo "$$said" >&2; exit 1; }
 
 list: target/bin/list
-	@target/bin/list < "$(REEL)"
+	@. tests/tools && choose_tools && run_made target/bin/list < "$(REEL)"
 
 lib: $(ARCHIVE)
 

@@ -32,28 +32,28 @@ fn word(kind: u64, first: usize) -> u64
 }
 
 // Done, clean or a tile.
-pub fn done() -> u64
+pub(crate) fn done() -> u64
     ensures { λ r. ⌜ r ≡ spec.done ⌝ }
 {
     word(DONE, 0)
 }
 
 // A refusal, by its number.
-pub fn refused(refusal: Refusal) -> u64
+pub(crate) fn refused(refusal: Refusal) -> u64
     ensures { λ r. ⌜ r ≡ spec.refused (numberOf refusal) ⌝ }
 {
     word(REFUSED, size::number(refusal))
 }
 
 // The end of a reel.
-pub fn end() -> u64
+pub(crate) fn end() -> u64
     ensures { λ r. ⌜ r ≡ spec.word 7 0 0 ⌝ }
 {
     word(END, 0)
 }
 
 // What the house slope's call answers.
-pub fn of_house(answer: House) -> u64
+pub(crate) fn of_house(answer: House) -> u64
     requires { ⌜ SizeFits (houseSaid answer) ⌝ }
     ensures { λ r. ⌜ r ≡ spec.sizeWord (houseSaid answer) ⌝ }
 {
@@ -64,7 +64,7 @@ pub fn of_house(answer: House) -> u64
 }
 
 // What write, read and fill answer.
-pub fn of_outcome(answer: Outcome) -> u64
+pub(crate) fn of_outcome(answer: Outcome) -> u64
     ensures { λ r. ⌜ r ≡ spec.tileWord (outcomeSaid answer) ⌝ }
 {
     match answer {
@@ -74,7 +74,7 @@ pub fn of_outcome(answer: Outcome) -> u64
 }
 
 // What repair answers.
-pub fn of_repair(answer: Repaired) -> u64
+pub(crate) fn of_repair(answer: Repaired) -> u64
     requires { ⌜ TileFits (repairSaid answer) ⌝ }
     ensures { λ r. ⌜ r ≡ spec.tileWord (repairSaid answer) ⌝ }
 {
@@ -87,7 +87,7 @@ pub fn of_repair(answer: Repaired) -> u64
 }
 
 // The line that a number names.
-pub fn line(n: usize) -> Line
+pub(crate) fn line(n: usize) -> Line
     ensures { λ r. ⌜ r ≡ spec.lineOf n ⌝ }
 {
     if n < 0x8000 {
