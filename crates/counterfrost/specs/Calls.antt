@@ -7,36 +7,36 @@ use Rattle.size.specs.Answer.{HouseTold}
 use Rattle.tile.specs.Calls.{WriteTold, ReadTold, RepairTold, FillTold}
 use Rattle.sheet.specs.Calls.{CorrectTold}
 use Rattle.reel.specs.Calls.{NextTold}
-use Rattle.counterfrost.specs.Word.{sizeWord, tileWord, sheetWord, countOrOffset, reelWord, tileNumber, tileSize, tileSlope, offset, lineOf}
+use Rattle.counterfrost.specs.Word.{Answer, word, sizeAnswer, tileAnswer, sheetAnswer, countOrOffset, reelAnswer, tileNumber, tileSize, tileSlope, offset, lineOf}
 
--- the word w stands for something that is rightly said
-pub record Worded {Said : Type 0} (wordOf : Said → ℕ) (Right : Said → Type 0) (w : ℕ) : Type 0 where
+-- the word w is the answer to something that is rightly said
+pub record Worded {Said : Type 0} (answerOf : Said → Answer) (Right : Said → Type 0) (w : ℕ) : Type 0 where
   pub said : Said
   pub right : Right said
-  pub is : w ≡ wordOf said
+  pub is : w ≡ word (answerOf said)
 
 -- the house slope of p
 abbrev pub HouseWorded : ℕ → ℕ → Type 0
-HouseWorded p = Worded sizeWord (HouseTold p)
+HouseWorded p = Worded sizeAnswer (HouseTold p)
 
 -- a tile call that leaves the bytes x
 abbrev pub WriteWorded : ℕ → ℕ → List ℕ → List ℕ → ℕ → List ℕ → Type 0
-WriteWorded p l text tile w x = Worded tileWord (λ s. WriteTold p l text tile s x) w
+WriteWorded p l text tile w x = Worded tileAnswer (λ s. WriteTold p l text tile s x) w
 
 abbrev pub ReadWorded : ℕ → ℕ → List ℕ → List ℕ → ℕ → List ℕ → Type 0
-ReadWorded p l tile text w x = Worded tileWord (λ s. ReadTold p l tile text s x) w
+ReadWorded p l tile text w x = Worded tileAnswer (λ s. ReadTold p l tile text s x) w
 
 abbrev pub RepairWorded : ℕ → ℕ → List ℕ → ℕ → List ℕ → Type 0
-RepairWorded p l tile w x = Worded tileWord (λ s. RepairTold p l tile s x) w
+RepairWorded p l tile w x = Worded tileAnswer (λ s. RepairTold p l tile s x) w
 
 abbrev pub FillWorded : ℕ → ℕ → List ℕ → ℕ → ℕ → ℕ → List ℕ → Type 0
-FillWorded p l tile first second w x = Worded tileWord (λ s. FillTold p l tile (lineOf first) (lineOf second) s x) w
+FillWorded p l tile first second w x = Worded tileAnswer (λ s. FillTold p l tile (lineOf first) (lineOf second) s x) w
 
 -- a correction that leaves the tile x, and the number n
 abbrev pub CorrectWorded : ℕ → ℕ → List ℕ → List ℕ → ℕ → List ℕ → ℕ → Type 0
-CorrectWorded p l tile sheet w x n = Worded sheetWord (λ s. CorrectTold p l tile sheet s x × (n ≡ countOrOffset s)) w
+CorrectWorded p l tile sheet w x n = Worded sheetAnswer (λ s. CorrectTold p l tile sheet s x × (n ≡ countOrOffset s)) w
 
 -- what stands at a place, in four numbers
 abbrev pub NextWorded : List ℕ → ℕ → ℕ → ℕ → ℕ → ℕ → ℕ → Type 0
 NextWorded reel at w number p l from =
-    Worded reelWord (λ s. NextTold reel at s × (number ≡ tileNumber s) × (p ≡ tileSize s) × (l ≡ tileSlope s) × (from ≡ offset s)) w
+    Worded reelAnswer (λ s. NextTold reel at s × (number ≡ tileNumber s) × (p ≡ tileSize s) × (l ≡ tileSlope s) × (from ≡ offset s)) w

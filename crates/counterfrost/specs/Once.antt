@@ -6,13 +6,13 @@ use Rattle.size.specs.Once.{house-told-once}
 use Rattle.tile.specs.Once.{write-told-once, read-told-once, repair-told-once, fill-told-once}
 use Rattle.sheet.specs.Once.{correct-told-once}
 use Rattle.reel.specs.Once.{next-told-once}
-use Rattle.counterfrost.specs.Word.{countOrOffset, tileNumber, tileSize, tileSlope, offset, lineOf}
+use Rattle.counterfrost.specs.Word.{Answer, word, countOrOffset, tileNumber, tileSize, tileSlope, offset, lineOf}
 use Rattle.counterfrost.specs.Calls.{Worded, HouseWorded, WriteWorded, ReadWorded, RepairWorded, FillWorded, CorrectWorded, NextWorded}
 
 -- where one thing is said, it has one word
-one-word : {Said : Type 0} {wordOf : Said → ℕ} {Right Right′ : Said → Type 0} {v w : ℕ} (t : Worded wordOf Right v) (u : Worded wordOf Right′ w)
-    → t .said ≡ u .said → v ≡ w
-one-word {wordOf = wordOf} t u e = t .is ∙ ap wordOf e ∙ sym (u .is)
+one-word : {Said : Type 0} {answerOf : Said → Answer} {Right Right′ : Said → Type 0} {v w : ℕ} (t : Worded answerOf Right v)
+    (u : Worded answerOf Right′ w) → t .said ≡ u .said → v ≡ w
+one-word {Said} {answerOf} t u e = t .is ∙ ap (λ (s : Said). word (answerOf s)) e ∙ sym (u .is)
 
 pub house-word-once : (p v w : ℕ) → HouseWorded p v → HouseWorded p w → v ≡ w
 house-word-once p v w t u = one-word t u (house-told-once p (t .said) (u .said) (t .right) (u .right))

@@ -22,7 +22,7 @@ use Rattle.sheet.specs.Worked.{sheet-11, tile-11}
 use Rattle.reel.specs.Answer as reel
 use Rattle.reel.specs.Worked as reel-case
 use Rattle.reel.specs.Worked.{whole-case}
-use Rattle.counterfrost.specs.Word.{word, done, refused, lineOf}
+use Rattle.counterfrost.specs.Word.{answer, word, done, refusal, lineOf}
 use Rattle.counterfrost.specs.Calls.{HouseWorded, WriteWorded, ReadWorded, RepairWorded, FillWorded, CorrectWorded, NextWorded}
 use Rattle.counterfrost.specs.Once.{house-word-once, write-word-once, read-word-once, repair-word-once, fill-word-once, correct-word-once, next-word-once}
 
@@ -35,36 +35,36 @@ by-row (RepairTold.by-row h f e first) = e
 
 -- ---- the house slope
 
-house-5 : HouseWorded 5 (word 0 2 0)
+house-5 : HouseWorded 5 (word (answer 0 2 0))
 house-5 = record { said = size.slope 2; right = size.given size-5 (record { allowed = at-5-2; least = λ j h a. omega (arith, a .low) }); is = refl }
 
-house-4 : HouseWorded 4 (refused 1)
+house-4 : HouseWorded 4 (word (refusal 1))
 house-4 = record { said = size.refused 1; right = size.no-size (λ s. omega (arith, s .low)); is = refl }
 
 -- a first number that is laid in the wrong bits
 pub first-misplaced : HouseWorded 5 2 → ⊥
-first-misplaced t = omega (arith, house-word-once 5 (word 0 2 0) 2 house-5 t)
+first-misplaced t = omega (arith, house-word-once 5 (word (answer 0 2 0)) 2 house-5 t)
 
 -- a refusal of the kind 0
-pub refusal-told-done : HouseWorded 4 (word 0 1 0) → ⊥
-refusal-told-done t = omega (arith, house-word-once 4 (refused 1) (word 0 1 0) house-4 t)
+pub refusal-told-done : HouseWorded 4 (word (answer 0 1 0)) → ⊥
+refusal-told-done t = omega (arith, house-word-once 4 (word (refusal 1)) (word (answer 0 1 0)) house-4 t)
 
 -- ---- write and read
 
-written-1 : WriteWorded 5 2 text-1 zeros done tile-1
+written-1 : WriteWorded 5 2 text-1 zeros (word done) tile-1
 written-1 = record { said = tile.done; right = tile-case.claimed 1 .0 zeros refl .0; is = refl }
 
 -- a writer that takes the slope for the size
-pub write-exchanged : (x : List ℕ) → WriteWorded 5 2 text-1 zeros (refused 1) x → ⊥
-write-exchanged x t = omega (arith, write-word-once 5 2 text-1 zeros done (refused 1) tile-1 x written-1 t .0)
+pub write-exchanged : (x : List ℕ) → WriteWorded 5 2 text-1 zeros (word (refusal 1)) x → ⊥
+write-exchanged x t = omega (arith, write-word-once 5 2 text-1 zeros (word done) (word (refusal 1)) tile-1 x written-1 t .0)
 
 -- one that copies the text and leaves the checks
 pub write-copies : (w : ℕ) → WriteWorded 5 2 text-1 zeros w copied-1 → ⊥
 write-copies w t =
-    let e = write-word-once 5 2 text-1 zeros done w tile-1 copied-1 written-1 t .1 in let z : _≡_ {A = ℕ} 0 1 = cc in omega arith
+    let e = write-word-once 5 2 text-1 zeros (word done) w tile-1 copied-1 written-1 t .1 in let z : _≡_ {A = ℕ} 0 1 = cc in omega arith
 
 -- the text of tile 1, whatever the lent text held
-read-1 : (page : List ℕ) → length page ≡ textLength 5 → ReadWorded 5 2 tile-1 page done (textOf 5 tile-1)
+read-1 : (page : List ℕ) → length page ≡ textLength 5 → ReadWorded 5 2 tile-1 page (word done) (textOf 5 tile-1)
 read-1 page e = record {
   said = tile.done;
   right = tile-calls.reads (admits size-5 at-5-2 (refl, e)) (written-good (tile-case.claimed 1 .0 zeros refl .0));
@@ -72,32 +72,32 @@ read-1 page e = record {
 }
 
 -- a reader that takes the slope for the size
-pub read-exchanged : (page x : List ℕ) → length page ≡ textLength 5 → ReadWorded 5 2 tile-1 page (refused 1) x → ⊥
-read-exchanged page x e t = omega (arith, read-word-once 5 2 tile-1 page done (refused 1) (textOf 5 tile-1) x (read-1 page e) t .0)
+pub read-exchanged : (page x : List ℕ) → length page ≡ textLength 5 → ReadWorded 5 2 tile-1 page (word (refusal 1)) x → ⊥
+read-exchanged page x e t = omega (arith, read-word-once 5 2 tile-1 page (word done) (word (refusal 1)) (textOf 5 tile-1) x (read-1 page e) t .0)
 
 -- one that says Done to a tile that is not good
-pub read-damaged : (page x : List ℕ) → length page ≡ textLength 5 → ReadWorded 5 2 copied-1 page done x → ⊥
+pub read-damaged : (page x : List ℕ) → length page ≡ textLength 5 → ReadWorded 5 2 copied-1 page (word done) x → ⊥
 read-damaged page x e t =
-    let right : ReadWorded 5 2 copied-1 page (refused 5) page = record { said = tile.refused 5; right = tile-case.other-claimed 2 .1 page e .0; is = refl } in
-    omega (arith, read-word-once 5 2 copied-1 page (refused 5) done page x right t .0)
+    let right : ReadWorded 5 2 copied-1 page (word (refusal 5)) page = record { said = tile.refused 5; right = tile-case.other-claimed 2 .1 page e .0; is = refl } in
+    omega (arith, read-word-once 5 2 copied-1 page (word (refusal 5)) (word done) page x right t .0)
 
 -- ---- repair
 
-repaired-4 : RepairWorded 5 2 tile-4 (word 1 3 0) zeros
+repaired-4 : RepairWorded 5 2 tile-4 (word (answer 1 3 0)) zeros
 repaired-4 = record { said = tile.column 3; right = tile-case.claimed 4 .0; is = refl }
 
 -- a repair that tells a column as a row
-pub column-told-row : (x : List ℕ) → RepairWorded 5 2 tile-4 (word 2 3 0) x → ⊥
-column-told-row x t = omega (arith, repair-word-once 5 2 tile-4 (word 1 3 0) (word 2 3 0) zeros x repaired-4 t .0)
+pub column-told-row : (x : List ℕ) → RepairWorded 5 2 tile-4 (word (answer 2 3 0)) x → ⊥
+column-told-row x t = omega (arith, repair-word-once 5 2 tile-4 (word (answer 1 3 0)) (word (answer 2 3 0)) zeros x repaired-4 t .0)
 
 -- one that names the column second
-pub column-second : (x : List ℕ) → RepairWorded 5 2 tile-4 (word 1 0 3) x → ⊥
-column-second x t = omega (arith, repair-word-once 5 2 tile-4 (word 1 3 0) (word 1 0 3) zeros x repaired-4 t .0)
+pub column-second : (x : List ℕ) → RepairWorded 5 2 tile-4 (word (answer 1 0 3)) x → ⊥
+column-second x t = omega (arith, repair-word-once 5 2 tile-4 (word (answer 1 3 0)) (word (answer 1 0 3)) zeros x repaired-4 t .0)
 
 -- ---- fill
 
 -- row 0, named twice
-filled-6 : FillWorded 5 2 tile-6 0 0 done zeros
+filled-6 : FillWorded 5 2 tile-6 0 0 (word done) zeros
 unfolding lineOf
 filled-6 = record {
   said = tile.done;
@@ -106,61 +106,61 @@ filled-6 = record {
 }
 
 -- a fill that takes rows for columns: column 0 has no filling there
-pub rows-for-columns : (x : List ℕ) → FillWorded 5 2 tile-6 0 0 (refused 5) x → ⊥
-rows-for-columns x t = omega (arith, fill-word-once 5 2 tile-6 0 0 done (refused 5) zeros x filled-6 t .0)
+pub rows-for-columns : (x : List ℕ) → FillWorded 5 2 tile-6 0 0 (word (refusal 5)) x → ⊥
+rows-for-columns x t = omega (arith, fill-word-once 5 2 tile-6 0 0 (word done) (word (refusal 5)) zeros x filled-6 t .0)
 
 -- row 0 and column 0
-crossed-9 : FillWorded 5 2 tile-9 0 0x8000 done filled-9
+crossed-9 : FillWorded 5 2 tile-9 0 0x8000 (word done) filled-9
 unfolding lineOf
 crossed-9 = record { said = tile.done; right = tile-case.claimed 9 .0; is = refl }
 
 -- one that passes over the second line: row 0 alone has no filling there
-pub second-line-ignored : (x : List ℕ) → FillWorded 5 2 tile-9 0 0x8000 (refused 5) x → ⊥
-second-line-ignored x t = omega (arith, fill-word-once 5 2 tile-9 0 0x8000 done (refused 5) filled-9 x crossed-9 t .0)
+pub second-line-ignored : (x : List ℕ) → FillWorded 5 2 tile-9 0 0x8000 (word (refusal 5)) x → ⊥
+second-line-ignored x t = omega (arith, fill-word-once 5 2 tile-9 0 0x8000 (word done) (word (refusal 5)) filled-9 x crossed-9 t .0)
 
 -- the column 8000 hex, which no tile has
-far-line : FillWorded 5 2 zeros 0x10000 0x10000 (refused 4) zeros
+far-line : FillWorded 5 2 zeros 0x10000 0x10000 (word (refusal 4)) zeros
 unfolding lineOf
 far-line = record { said = tile.refused 4; right = tile-calls.no-line (admits size-5 at-5-2 refl) (λ h. omega (arith, h .0)); is = refl }
 
 -- one that looks at the last 16 bits of a line's name alone
-pub last-bits : (x : List ℕ) → FillWorded 5 2 zeros 0x10000 0x10000 done x → ⊥
-last-bits x t = omega (arith, fill-word-once 5 2 zeros 0x10000 0x10000 (refused 4) done zeros x far-line t .0)
+pub last-bits : (x : List ℕ) → FillWorded 5 2 zeros 0x10000 0x10000 (word done) x → ⊥
+last-bits x t = omega (arith, fill-word-once 5 2 zeros 0x10000 0x10000 (word (refusal 4)) (word done) zeros x far-line t .0)
 
 -- ---- correct
 
-corrected-11 : CorrectWorded 5 2 tile-4 sheet-11 done tile-11 1
+corrected-11 : CorrectWorded 5 2 tile-4 sheet-11 (word done) tile-11 1
 corrected-11 = record { said = sheet.corrected 1; right = (sheet-case.claimed 11 .1 .0, refl); is = refl }
 
 -- a correction that leaves the number as it was
 pub count-missing : (w : ℕ) (x : List ℕ) → CorrectWorded 5 2 tile-4 sheet-11 w x 0 → ⊥
-count-missing w x t = omega (arith, correct-word-once 5 2 tile-4 sheet-11 done w tile-11 x 1 0 corrected-11 t .2)
+count-missing w x t = omega (arith, correct-word-once 5 2 tile-4 sheet-11 (word done) w tile-11 x 1 0 corrected-11 t .2)
 
 -- a sheet of one byte
-cut-sheet : CorrectWorded 5 2 zeros (0 ∷ []) (refused 7) zeros 0
+cut-sheet : CorrectWorded 5 2 zeros (0 ∷ []) (word (refusal 7)) zeros 0
 cut-sheet = record { said = sheet.refused 7 0; right = (sheet-calls.faulty (admits size-5 at-5-2 refl) (sheet-calls.cut (λ w. omega (arith, w))), refl); is = refl }
 
 -- one that gives the size for a refusal's offset
 pub size-for-offset : (w : ℕ) (x : List ℕ) → CorrectWorded 5 2 zeros (0 ∷ []) w x 5 → ⊥
-size-for-offset w x t = omega (arith, correct-word-once 5 2 zeros (0 ∷ []) (refused 7) w zeros x 0 5 cut-sheet t .2)
+size-for-offset w x t = omega (arith, correct-word-once 5 2 zeros (0 ∷ []) (word (refusal 7)) w zeros x 0 5 cut-sheet t .2)
 
 -- ---- next
 
-first-tile : NextWorded whole-case 0 done 7 5 2 10
+first-tile : NextWorded whole-case 0 (word done) 7 5 2 10
 first-tile = record { said = reel.tile 7 5 2 10; right = (reel-case.first, refl, refl, refl, refl); is = refl }
 
-at-end : NextWorded whole-case 53 (word 7 0 0) 0 0 0 0
+at-end : NextWorded whole-case 53 (word (answer 7 0 0)) 0 0 0 0
 at-end = record { said = reel.end; right = (reel-case.behind, refl, refl, refl, refl); is = refl }
 
 -- a reader that leaves a number where it has no value
 pub number-left : (w : ℕ) → NextWorded whole-case 53 w 1 0 0 0 → ⊥
-number-left w t = omega (arith, next-word-once whole-case 53 (word 7 0 0) w 0 1 0 0 0 0 0 0 at-end t .1 .number-same)
+number-left w t = omega (arith, next-word-once whole-case 53 (word (answer 7 0 0)) w 0 1 0 0 0 0 0 0 at-end t .1 .number-same)
 
 -- one that gives the tile's number for the offset of its bytes
 pub number-for-offset : (w : ℕ) → NextWorded whole-case 0 w 7 5 2 7 → ⊥
-number-for-offset w t = omega (arith, next-word-once whole-case 0 done w 7 7 5 5 2 2 10 7 first-tile t .1 .offset-same)
+number-for-offset w t = omega (arith, next-word-once whole-case 0 (word done) w 7 7 5 5 2 2 10 7 first-tile t .1 .offset-same)
 
 -- one that tells the end as a tile
-pub end-told-tile : (number p l from : ℕ) → NextWorded whole-case 53 done number p l from → ⊥
+pub end-told-tile : (number p l from : ℕ) → NextWorded whole-case 53 (word done) number p l from → ⊥
 end-told-tile number p l from t =
-    omega (arith, next-word-once whole-case 53 (word 7 0 0) done 0 number 0 p 0 l 0 from at-end t .0)
+    omega (arith, next-word-once whole-case 53 (word (answer 7 0 0)) (word done) 0 number 0 p 0 l 0 from at-end t .0)

@@ -10,45 +10,48 @@ use Rattle.sheet.specs.Answer as sheet
 use Rattle.reel.specs.Answer as reel
 
 -- "The answer is one word, kind·2³² + first·2¹⁶ + second"
-abbrev pub word : ℕ → ℕ → ℕ → ℕ
-word kind first second = kind * 0x100000000 + first * 0x10000 + second
+pub data Answer : Type 0 where
+  answer : (kind first second : ℕ) → Answer
+
+abbrev pub word : Answer → ℕ
+word (answer kind first second) = kind * 0x100000000 + first * 0x10000 + second
 
 -- "kind 0 done, clean or a tile; 1 column (first), 2 row (first), .. 4 refused (first is the number), 7 the end of a reel". Kind 3, a cell,
 -- is for later
-abbrev pub done : ℕ
-done = word 0 0 0
+abbrev pub done : Answer
+done = answer 0 0 0
 
-abbrev pub refused : ℕ → ℕ
-refused n = word 4 n 0
+abbrev pub refusal : ℕ → Answer
+refusal n = answer 4 n 0
 
 -- "`cf_house_slope` gives the slope as first"
-abbrev pub sizeWord : size.Said → ℕ
-sizeWord (size.slope l) = word 0 l 0
-sizeWord size.well = done
-sizeWord (size.refused n) = refused n
+abbrev pub sizeAnswer : size.Said → Answer
+sizeAnswer (size.slope l) = answer 0 l 0
+sizeAnswer size.well = done
+sizeAnswer (size.refused n) = refusal n
 
 -- what write, read, fill and repair say
-abbrev pub tileWord : tile.Said → ℕ
-tileWord tile.done = done
-tileWord tile.clean = done
-tileWord (tile.column c) = word 1 c 0
-tileWord (tile.row r) = word 2 r 0
-tileWord (tile.refused n) = refused n
+abbrev pub tileAnswer : tile.Said → Answer
+tileAnswer tile.done = done
+tileAnswer tile.clean = done
+tileAnswer (tile.column c) = answer 1 c 0
+tileAnswer (tile.row r) = answer 2 r 0
+tileAnswer (tile.refused n) = refusal n
 
 -- what a correction says: "the count, or a refusal's offset, in `*count_or_offset`"
-abbrev pub sheetWord : sheet.Said → ℕ
-sheetWord (sheet.corrected n) = done
-sheetWord (sheet.refused n at) = refused n
+abbrev pub sheetAnswer : sheet.Said → Answer
+sheetAnswer (sheet.corrected n) = done
+sheetAnswer (sheet.refused n at) = refusal n
 
 abbrev pub countOrOffset : sheet.Said → ℕ
 countOrOffset (sheet.corrected n) = n
 countOrOffset (sheet.refused n at) = at
 
 -- what stands at a place of a reel: "0 in what it has no value for, and a refusal's offset in `*offset`"
-abbrev pub reelWord : reel.Said → ℕ
-reelWord (reel.tile number p l from) = done
-reelWord reel.end = word 7 0 0
-reelWord (reel.refused n from) = refused n
+abbrev pub reelAnswer : reel.Said → Answer
+reelAnswer (reel.tile number p l from) = done
+reelAnswer reel.end = answer 7 0 0
+reelAnswer (reel.refused n from) = refusal n
 
 abbrev pub tileNumber : reel.Said → ℕ
 tileNumber (reel.tile number p l from) = number

@@ -10,7 +10,7 @@ ghost use Rattle.size.specs.Refusal.{numberOf};
 ghost use Rattle.size.specs.Answer.{houseSaid};
 ghost use Rattle.tile.specs.Answer.{outcomeSaid, repairSaid};
 ghost use Rattle.counterfrost.specs.Word as spec;
-ghost use Rattle.counterfrost.specs.Fits.{SizeFits, TileFits};
+ghost use Rattle.counterfrost.specs.Fits.{Fits};
 
 // The kinds of an answer. Done stands for clean and for a tile too.
 const DONE: u64 = 0;
@@ -26,36 +26,36 @@ const END: u64 = 7;
 // The word of a kind and a first number. The second number is 0: no answer has one yet.
 fn word(kind: u64, first: usize) -> u64
     requires { ⌜ (kind ≤ 7) × (first < 0x10000) ⌝ }
-    ensures { λ r. ⌜ r ≡ spec.word kind first 0 ⌝ }
+    ensures { λ r. ⌜ r ≡ spec.word (spec.answer kind first 0) ⌝ }
 {
     kind * 0x100000000 + first as u64 * 0x10000
 }
 
 // Done, clean or a tile.
 pub(crate) fn done() -> u64
-    ensures { λ r. ⌜ r ≡ spec.done ⌝ }
+    ensures { λ r. ⌜ r ≡ spec.word spec.done ⌝ }
 {
     word(DONE, 0)
 }
 
 // A refusal, by its number.
 pub(crate) fn refused(refusal: Refusal) -> u64
-    ensures { λ r. ⌜ r ≡ spec.refused (numberOf refusal) ⌝ }
+    ensures { λ r. ⌜ r ≡ spec.word (spec.refusal (numberOf refusal)) ⌝ }
 {
     word(REFUSED, size::number(refusal))
 }
 
 // The end of a reel.
 pub(crate) fn end() -> u64
-    ensures { λ r. ⌜ r ≡ spec.word 7 0 0 ⌝ }
+    ensures { λ r. ⌜ r ≡ spec.word (spec.answer 7 0 0) ⌝ }
 {
     word(END, 0)
 }
 
 // What the house slope's call answers.
 pub(crate) fn of_house(answer: House) -> u64
-    requires { ⌜ SizeFits (houseSaid answer) ⌝ }
-    ensures { λ r. ⌜ r ≡ spec.sizeWord (houseSaid answer) ⌝ }
+    requires { ⌜ Fits (spec.sizeAnswer (houseSaid answer)) ⌝ }
+    ensures { λ r. ⌜ r ≡ spec.word (spec.sizeAnswer (houseSaid answer)) ⌝ }
 {
     match answer {
         House::Slope(l) => word(DONE, l),
@@ -65,7 +65,7 @@ pub(crate) fn of_house(answer: House) -> u64
 
 // What write, read and fill answer.
 pub(crate) fn of_outcome(answer: Outcome) -> u64
-    ensures { λ r. ⌜ r ≡ spec.tileWord (outcomeSaid answer) ⌝ }
+    ensures { λ r. ⌜ r ≡ spec.word (spec.tileAnswer (outcomeSaid answer)) ⌝ }
 {
     match answer {
         Outcome::Done => done(),
@@ -75,8 +75,8 @@ pub(crate) fn of_outcome(answer: Outcome) -> u64
 
 // What repair answers.
 pub(crate) fn of_repair(answer: Repaired) -> u64
-    requires { ⌜ TileFits (repairSaid answer) ⌝ }
-    ensures { λ r. ⌜ r ≡ spec.tileWord (repairSaid answer) ⌝ }
+    requires { ⌜ Fits (spec.tileAnswer (repairSaid answer)) ⌝ }
+    ensures { λ r. ⌜ r ≡ spec.word (spec.tileAnswer (repairSaid answer)) ⌝ }
 {
     match answer {
         Repaired::Clean => done(),

@@ -8,7 +8,7 @@ enum-known-answer : tie.Need-enum-known-answer
 enum-known-answer c = search needs
 
 word-requires : tie.Need-word-requires
-word-requires c κs = (omega arith, rw (c .before .answer .given .1) at (c .before .before .before .pre))
+word-requires c κs = (omega arith, rw (c .before .answer .given .1) at (c .before .before .before .pre) .0)
 
 enum-known-answer-2 : tie.Need-enum-known-answer-2
 enum-known-answer-2 c = search needs

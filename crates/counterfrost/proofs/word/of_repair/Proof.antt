@@ -14,13 +14,13 @@ enum-known-answer : tie.Need-enum-known-answer
 enum-known-answer c = search needs
 
 word-requires : tie.Need-word-requires
-word-requires c κs = (omega arith, rw (c .before .answer .given .1) at (c .before .before .before .pre))
+word-requires c κs = (omega arith, rw (c .before .answer .given .1) at (c .before .before .before .pre) .0)
 
 enum-known-answer-2 : tie.Need-enum-known-answer-2
 enum-known-answer-2 c = search needs
 
 word-requires-2 : tie.Need-word-requires-2
-word-requires-2 c κs = (omega arith, rw (c .before .answer2 .given .1) at (c .before .before .before .pre))
+word-requires-2 c κs = (omega arith, rw (c .before .answer2 .given .1) at (c .before .before .before .pre) .0)
 
 enum-known-answer-3 : tie.Need-enum-known-answer-3
 enum-known-answer-3 c = search needs

@@ -1,12 +1,20 @@
 -- `worked::paper::print_sums` is safe: the tests before the sums are what they ask. Assumes nothing.
-use Prim.Native.Nat.{_-_, _≤_}
+use mathlib.Core.Bool.{Bool, false, not}
+use mathlib.Core.Path.{_≡_}
+use Prim.Native.Nat.{ℕ, _-_, _≤_}
 use native.Mathlib.Nat.{mul-le-mul}
 use native.Mathlib.Omega.{arith}
 use borrow.Author.Needs.{needs}
 use borrow.Author.Tests.{not-false}
+use Rattle.code.specs.Size.{Size}
+use Rattle.size.specs.Answer.{Says}
 use Rattle.size.specs.Told.{says-true}
 use Rattle.worked.proofs.paper.print_sums.Statement.{statement}
 use Rattle.worked.proofs.paper.print_sums.Tie as tie
+
+-- p was not refused, so it is a size
+taken-size : {p : ℕ} (b : Bool) → Says b (Size p) → not b ≡ false → Size p
+taken-size b says left = says-true {b = b} says (not-false b left)
 
 takes-size-requires : tie.Need-takes-size-requires
 takes-size-requires c κs = search needs
@@ -29,7 +37,7 @@ sub-if4-2 c = search needs
 mul-if4 : tie.Need-mul-if4
 mul-if4 c =
     let taken = c .before .before in
-    let size = says-true {b = taken .before .takes-size .result} (taken .before .takes-size .ensures) (not-false (taken .before .takes-size .result) (taken .if1 .left)) in
+    let size = taken-size (taken .before .takes-size .result) (taken .before .takes-size .ensures) (taken .if1 .left) in
     let rows : taken .before .before .before .before .args .p - 1 ≤ 256 = omega (arith, size .high) in
     omega (arith, mul-le-mul rows rows)
 
@@ -39,13 +47,13 @@ returns-4 c = search needs
 line-sums-requires : tie.Need-line-sums-requires
 line-sums-requires c κs =
     let taken = c .before .before .before in
-    let size = says-true {b = taken .before .takes-size .result} (taken .before .takes-size .ensures) (not-false (taken .before .takes-size .result) (taken .if1 .left)) in
+    let size = taken-size (taken .before .takes-size .result) (taken .before .takes-size .ensures) (taken .if1 .left) in
     record { prime = size .prime; high = size .high; positive = omega arith; slope = omega (arith, size .low); size = omega arith }
 
 line-sums-requires-2 : tie.Need-line-sums-requires-2
 line-sums-requires-2 c κs =
     let taken = c .before .before .before .before in
-    let size = says-true {b = taken .before .takes-size .result} (taken .before .takes-size .ensures) (not-false (taken .before .takes-size .result) (taken .if1 .left)) in
+    let size = taken-size (taken .before .takes-size .result) (taken .before .takes-size .ensures) (taken .if1 .left) in
     record { prime = size .prime; high = size .high; positive = omega arith; slope = omega arith; size = omega arith }
 
 slice-aggregate-begin : tie.Need-slice-aggregate-begin
@@ -76,7 +84,7 @@ all-one-requires : tie.Need-all-one-requires
 all-one-requires c κs =
     let summed = c .before .before .before .before .before .before .before .before .before .before in
     let taken = summed .before .before .before .before .before in
-    let size = says-true {b = taken .before .takes-size .result} (taken .before .takes-size .ensures) (not-false (taken .before .takes-size .result) (taken .if1 .left)) in
+    let size = taken-size (taken .before .takes-size .result) (taken .before .takes-size .ensures) (taken .if1 .left) in
     (omega arith, size .high)
 
 slice-aggregate-words-2 : tie.Need-slice-aggregate-words-2
