@@ -43,8 +43,9 @@
  *   many bytes as its length says, and must not be null, not even where the length is 0. What is written to (a tile, a text, a
  *   number) must not overlap anything else that is lent to the same call. What is const is not changed.
  *
- * Each call is proved to do what is said here, for every size, slope, length and byte: in the repository, crates/counterfrost holds
- * the code and docs/PROMISES.md says what is shown.
+ * What each call answers, and what it leaves in the memory that it was lent, is proved, for every size, slope, length and byte: in the
+ * repository, crates/counterfrost holds the code and docs/PROMISES.md says what is shown. The compiler is not covered by the proof; the
+ * archive is tested against a second implementation. The depth of the stack is measured.
  */
 #ifndef COUNTERFROST_H
 #define COUNTERFROST_H

@@ -63,6 +63,16 @@ pub write-copies : (w : ℕ) → WriteWorded 5 2 text-1 zeros w copied-1 → ⊥
 write-copies w t =
     let e = write-word-once 5 2 text-1 zeros (word done) w tile-1 copied-1 written-1 t .1 in let z : _≡_ {A = ℕ} 0 1 = cc in omega arith
 
+-- one that refuses the slope 0 with the kind 0
+pub write-refusal-done : (x : List ℕ) → WriteWorded 5 0 text-1 zeros (word (answer 0 2 0)) x → ⊥
+write-refusal-done x t =
+    let right : WriteWorded 5 0 text-1 zeros (word (refusal 2)) zeros = record {
+      said = tile.refused 2;
+      right = tile-calls.WriteTold.refuses (tile-calls.judged (size.no-slope size-5 (λ a. omega (arith, a .low))));
+      is = refl;
+    } in
+    omega (arith, write-word-once 5 0 text-1 zeros (word (refusal 2)) (word (answer 0 2 0)) zeros x right t .0)
+
 -- the text of tile 1, whatever the lent text held
 read-1 : (page : List ℕ) → length page ≡ textLength 5 → ReadWorded 5 2 tile-1 page (word done) (textOf 5 tile-1)
 read-1 page e = record {
@@ -75,11 +85,18 @@ read-1 page e = record {
 pub read-exchanged : (page x : List ℕ) → length page ≡ textLength 5 → ReadWorded 5 2 tile-1 page (word (refusal 1)) x → ⊥
 read-exchanged page x e t = omega (arith, read-word-once 5 2 tile-1 page (word done) (word (refusal 1)) (textOf 5 tile-1) x (read-1 page e) t .0)
 
+-- tile 1 without its checks
+refused-1 : (page : List ℕ) → length page ≡ textLength 5 → ReadWorded 5 2 copied-1 page (word (refusal 5)) page
+refused-1 page e = record { said = tile.refused 5; right = tile-case.other-claimed 2 .1 page e .0; is = refl }
+
 -- one that says Done to a tile that is not good
 pub read-damaged : (page x : List ℕ) → length page ≡ textLength 5 → ReadWorded 5 2 copied-1 page (word done) x → ⊥
-read-damaged page x e t =
-    let right : ReadWorded 5 2 copied-1 page (word (refusal 5)) page = record { said = tile.refused 5; right = tile-case.other-claimed 2 .1 page e .0; is = refl } in
-    omega (arith, read-word-once 5 2 copied-1 page (word (refusal 5)) (word done) page x right t .0)
+read-damaged page x e t = omega (arith, read-word-once 5 2 copied-1 page (word (refusal 5)) (word done) page x (refused-1 page e) t .0)
+
+-- one that refuses it with the kind 0
+pub read-refusal-done : (page x : List ℕ) → length page ≡ textLength 5 → ReadWorded 5 2 copied-1 page (word (answer 0 5 0)) x → ⊥
+read-refusal-done page x e t =
+    omega (arith, read-word-once 5 2 copied-1 page (word (refusal 5)) (word (answer 0 5 0)) page x (refused-1 page e) t .0)
 
 -- ---- repair
 
