@@ -12,26 +12,29 @@
 
 #include "peer_rules.h"
 
-/* Two lines have the most cells that are unknown together. */
-enum { MOST_CELLS = 2 * (LARGEST_SIZE - 1) };
-
-struct cell {
-    size_t row;
-    size_t column;
-};
-
-/* The right sides while no cell is unknown, the XOR of the bytes on each line: the slope-1 lines first, then those of slope l. */
-struct right_sides {
-    uint8_t of_line[2 * LARGEST_SIZE];
+/* A tile with the right sides of its equations while no cell is unknown, the XOR of the bytes on each line: the slope-1 lines first,
+ * then those of slope l. */
+struct given_tile {
+    size_t p;
+    const uint8_t *bytes;
+    size_t l_times[LARGEST_SIZE];   /* l times each number below p, modulo p */
+    size_t l_divides[LARGEST_SIZE]; /* the number of which l times, modulo p, is each number below p */
+    uint8_t right_side[2 * LARGEST_SIZE];
+    size_t in_order[2 * LARGEST_SIZE]; /* the lines, in the order in which elimination takes their equations */
 };
 
 /* For a size p and a slope l that it allows. */
-struct right_sides right_sides_of(size_t p, size_t l, const uint8_t *tile);
+void give_tile(struct given_tile *tile, size_t p, size_t l, const uint8_t *bytes);
 
-/* Finds the bytes that the given cells, each of them named once, must have for the tile to be good. What the tile holds there does not
- * matter. Gives 0 where there are no such bytes, and otherwise 1. Document 01 leaves no choice between two solutions: the program is
- * stopped if there is one. The right sides are those of the tile. */
-int solve(size_t p, size_t l, const uint8_t *tile, const struct right_sides *sides, const struct cell *cells, size_t count,
-          uint8_t *bytes);
+/* A row or a column. */
+struct strip {
+    int is_column;
+    size_t number;
+};
+
+/* Finds the bytes that the cells of some strips, none, one or two, must have for the tile to be good. What it holds there does not matter.
+ * They are laid into a copy of the tile's bytes, or into these themselves. Gives 0 where there are no such bytes, and otherwise 1. Document
+ * 01 leaves no choice between two solutions: the program is stopped if there is one. */
+int solve(const struct given_tile *tile, const struct strip *strips, size_t count, uint8_t *copy);
 
 #endif
