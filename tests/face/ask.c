@@ -3,7 +3,6 @@
 #include "ask.h"
 
 #include <inttypes.h>
-#include <stdarg.h>
 #include <stdio.h>
 #include <string.h>
 
@@ -12,7 +11,7 @@
 #include "lent.h"
 #include "peer.h"
 
-enum { MOST_LENT = 2, MOST_NUMBERS = 4, LIBRARY = 0, PEER = 1, SHOWN_BYTES = 128 };
+enum { MOST_TOLD = 4, MOST_LENT = 2, MOST_NUMBERS = 4, LIBRARY = 0, PEER = 1, SHOWN_BYTES = 128 };
 
 /* Some lent bytes: as the caller gave them, and as each side was lent them. */
 struct lent_to_both {
@@ -27,22 +26,23 @@ struct number_of_both {
     struct lent_number side[2];
 };
 
-/* A question, with what was lent for it and what was answered. */
+/* A question, with the numbers that are told, what is lent for it and what is answered. It is put into words for a difference only. */
 struct question {
-    char words[200];
+    const char *format;
+    size_t told[MOST_TOLD];
     size_t lent_count, number_count;
     struct lent_to_both lent[MOST_LENT];
     struct number_of_both number[MOST_NUMBERS];
     uint64_t word[2];
 };
 
-static void put(struct question *question, const char *format, ...)
+/* The format has a place for each number that is told; the others are 0. */
+static void put(struct question *question, const char *format, size_t first, size_t second, size_t third, size_t fourth)
 {
+    const size_t told[MOST_TOLD] = {first, second, third, fourth};
+    question->format = format;
+    memcpy(question->told, told, sizeof told);
     question->lent_count = question->number_count = 0;
-    va_list values;
-    va_start(values, format);
-    vsnprintf(question->words, sizeof question->words, format, values);
-    va_end(values);
 }
 
 static struct lent_to_both *lend_to_both(struct question *question, const char *name, const uint8_t *given, size_t length)
@@ -158,7 +158,10 @@ static void print_overstepping(const struct lent_to_both *lent, const char *who,
 
 static void print_question(const struct question *question)
 {
-    detail("asked: %s", question->words);
+    char words[200];
+    const size_t *told = question->told;
+    snprintf(words, sizeof words, question->format, told[0], told[1], told[2], told[3]);
+    detail("asked: %s", words);
     for (size_t k = 0; k < question->lent_count; k++)
         print_given(&question->lent[k]);
     print_answer(question, "library", LIBRARY);
@@ -195,7 +198,7 @@ static uint64_t compare(struct question *question)
 uint64_t ask_house_slope(size_t p)
 {
     struct question question;
-    put(&question, "cf_house_slope, p %zu", p);
+    put(&question, "cf_house_slope, p %zu", p, 0, 0, 0);
     question.word[LIBRARY] = cf_house_slope(p);
     question.word[PEER] = peer_house_slope(p);
     return compare(&question);
@@ -204,7 +207,7 @@ uint64_t ask_house_slope(size_t p)
 uint64_t ask_write(size_t p, size_t l, const uint8_t *text, size_t text_len, uint8_t *tile, size_t tile_len)
 {
     struct question question;
-    put(&question, "cf_write, p %zu, l %zu", p, l);
+    put(&question, "cf_write, p %zu, l %zu", p, l, 0, 0);
     struct lent *texts = for_reading(&question, "text", text, text_len);
     struct lent *tiles = for_writing(&question, "tile", tile, tile_len);
     question.word[LIBRARY] = cf_write(p, l, texts[LIBRARY].bytes, text_len, tiles[LIBRARY].bytes, tile_len);
@@ -215,7 +218,7 @@ uint64_t ask_write(size_t p, size_t l, const uint8_t *text, size_t text_len, uin
 uint64_t ask_read(size_t p, size_t l, const uint8_t *tile, size_t tile_len, uint8_t *text, size_t text_len)
 {
     struct question question;
-    put(&question, "cf_read, p %zu, l %zu", p, l);
+    put(&question, "cf_read, p %zu, l %zu", p, l, 0, 0);
     struct lent *tiles = for_reading(&question, "tile", tile, tile_len);
     struct lent *texts = for_writing(&question, "text", text, text_len);
     question.word[LIBRARY] = cf_read(p, l, tiles[LIBRARY].bytes, tile_len, texts[LIBRARY].bytes, text_len);
@@ -226,7 +229,7 @@ uint64_t ask_read(size_t p, size_t l, const uint8_t *tile, size_t tile_len, uint
 uint64_t ask_repair(size_t p, size_t l, uint8_t *tile, size_t tile_len)
 {
     struct question question;
-    put(&question, "cf_repair, p %zu, l %zu", p, l);
+    put(&question, "cf_repair, p %zu, l %zu", p, l, 0, 0);
     struct lent *tiles = for_writing(&question, "tile", tile, tile_len);
     question.word[LIBRARY] = cf_repair(p, l, tiles[LIBRARY].bytes, tile_len);
     question.word[PEER] = peer_repair(p, l, tiles[PEER].bytes, tile_len);
@@ -247,7 +250,7 @@ uint64_t ask_correct(size_t p, size_t l, uint8_t *tile, size_t tile_len, const u
                      uint64_t *count_or_offset)
 {
     struct question question;
-    put(&question, "cf_correct, p %zu, l %zu", p, l);
+    put(&question, "cf_correct, p %zu, l %zu", p, l, 0, 0);
     struct lent *tiles = for_writing(&question, "tile", tile, tile_len);
     struct lent *sheets = for_reading(&question, "sheet", sheet, sheet_len);
     struct lent_number *numbers = for_a_number(&question, "count or offset");
@@ -261,7 +264,7 @@ uint64_t ask_correct(size_t p, size_t l, uint8_t *tile, size_t tile_len, const u
 uint64_t ask_next(const uint8_t *reel, size_t reel_len, size_t at, struct found *found)
 {
     struct question question;
-    put(&question, "cf_next, at %zu", at);
+    put(&question, "cf_next, at %zu", at, 0, 0, 0);
     struct lent *reels = for_reading(&question, "reel", reel, reel_len);
     struct lent_number *number = for_a_number(&question, "number");
     struct lent_number *p = for_a_number(&question, "p");
