@@ -1,4 +1,4 @@
-/* Fill: every pair of lines at the smallest sizes, and pairs of each kind at all of them. */
+/* Fill: every pair of lines at the smallest sizes, there also with each cell hurt in turn, and pairs of each kind at all sizes. */
 
 #include <stddef.h>
 #include <stdint.h>
@@ -11,17 +11,19 @@
 static struct chance chance;
 static uint8_t good[LARGEST_TILE], tile[LARGEST_TILE];
 
-/* What is hurt besides the flagged lines: nothing, one cell, one line, all. */
-enum besides { NOTHING, A_CELL, A_LINE, ALL, BESIDES };
+/* What is hurt besides the flagged lines: nothing, one cell, one line, all; and all again, in a tile of bits. */
+enum besides { NOTHING, A_CELL, A_LINE, ALL, ALL_BITS, BESIDES };
 
 static void hurt_besides(size_t p, enum besides besides)
 {
     if (besides == A_CELL)
         hurt_cells(&chance, p, tile, 1);
     if (besides == A_LINE)
-        hurt_line(&chance, p, tile, chance_below(&chance, 2) ? some_row(&chance, p) : some_column(&chance, p), HURT_ANY);
+        hurt_line(&chance, p, tile, some_line(&chance, p), HURT_ANY);
     if (besides == ALL)
-        chance_bytes(&chance, tile, tile_length(p));
+        make_garbage(&chance, p, tile, GARBAGE_OF_BYTES);
+    if (besides == ALL_BITS)
+        make_garbage(&chance, p, tile, GARBAGE_OF_BITS);
 }
 
 /* Two lines are lost of a good tile, and what stands in their place is any bytes. */
@@ -40,18 +42,44 @@ static void fill_each_way(size_t p, size_t l, size_t first, size_t second)
         fill_two(p, l, first, second, (enum besides)besides);
 }
 
-/* The n-th of the tile's lines: its rows, then its columns. */
-static size_t nth_line(size_t p, size_t n)
-{
-    return n < p - 1 ? row_name(n) : column_name(n - (p - 1));
-}
-
 static void every_pair(size_t p, size_t l)
 {
     make_tile(&chance, p, l, good);
     for (size_t first = 0; first < 2 * (p - 1); first++)
         for (size_t second = 0; second < 2 * (p - 1); second++)
             fill_each_way(p, l, nth_line(p, first), nth_line(p, second));
+}
+
+/* One cell of a good tile is hurt, each in turn, and nothing is lost: where it stands on a flagged line the good tile comes back,
+ * elsewhere there is another filling or none. */
+static void each_cell_hurt(size_t p, size_t l, size_t first, size_t second)
+{
+    for (size_t k = 0; k < tile_length(p); k++) {
+        memcpy(tile, good, tile_length(p));
+        tile[k] ^= chance_change(&chance);
+        ask_fill(p, l, tile, tile_length(p), first, second);
+    }
+}
+
+static void every_pair_and_cell(size_t p, size_t l)
+{
+    make_tile(&chance, p, l, good);
+    for (size_t first = 0; first < 2 * (p - 1); first++)
+        for (size_t second = 0; second < 2 * (p - 1); second++)
+            each_cell_hurt(p, l, nth_line(p, first), nth_line(p, second));
+}
+
+/* Pairs with the first, the last and a middle line, crossed and side by side, and such lines alone. */
+static void pairs_at_the_edges(size_t p, size_t l)
+{
+    const size_t last_row = row_name(p - 2), last_column = column_name(p - 2), row = row_name(p / 2), column = column_name(p / 2);
+    const size_t pairs[][2] = {
+        {row_name(p / 3), last_column}, {column_name(0), last_row}, {row, column},   {row_name(1), row},
+        {column, column_name(1)},       {last_row, last_row},       {row, row},      {last_column, last_column},
+    };
+    make_tile(&chance, p, l, good);
+    for (size_t k = 0; k < sizeof pairs / sizeof pairs[0]; k++)
+        fill_two(p, l, pairs[k][0], pairs[k][1], NOTHING);
 }
 
 static void some_pairs(size_t p, size_t l)
@@ -80,6 +108,9 @@ void cases_fill(void)
 {
     chance = chance_from(3);
     for_small_sizes(11, every_pair);
+    for_small_sizes(7, every_pair_and_cell);
     for_small_sizes(SMALL_SIZE, many_pairs);
     for_all_sizes(&chance, some_pairs);
+    for (size_t p = size_above(0); p != 0; p = size_above(p))
+        pairs_at_the_edges(p, house_slope(p));
 }

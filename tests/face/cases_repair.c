@@ -1,4 +1,4 @@
-/* Repair: lines hurt in each way, damage that no line explains, and at the smallest size every tile of bits. */
+/* Repair: lines and cells hurt in each way, damage that no line explains, and at the smallest size every tile of bits. */
 
 #include <stddef.h>
 #include <stdint.h>
@@ -52,6 +52,44 @@ static void some_lines(size_t p, size_t l)
     make_tile(&chance, p, l, good);
     for (size_t k = 0; k < sizeof lines / sizeof lines[0]; k++)
         one_line_hurt(p, l, lines[k], (enum hurt)chance_below(&chance, HURTS));
+}
+
+/* A hurt cell: the tile is not read, its column is put right, and then it is. */
+static void one_cell_hurt(size_t p, size_t l, size_t cell)
+{
+    memcpy(tile, good, tile_length(p));
+    tile[cell] ^= chance_change(&chance);
+    ask_read(p, l, tile, tile_length(p), text, text_length(p));
+    repair_and_read(p, l);
+}
+
+static void each_cell_in_turn(size_t p, size_t l)
+{
+    make_tile(&chance, p, l, good);
+    for (size_t cell = 0; cell < tile_length(p); cell++)
+        one_cell_hurt(p, l, cell);
+}
+
+/* The first, a middle and the last cell, and the lines in the middle. */
+static void middle_lines_and_cells(size_t p, size_t l)
+{
+    make_tile(&chance, p, l, good);
+    one_cell_hurt(p, l, 0);
+    one_cell_hurt(p, l, tile_length(p) / 3);
+    one_cell_hurt(p, l, tile_length(p) - 1);
+    one_line_hurt(p, l, column_name(p / 2), HURT_ANY);
+    one_line_hurt(p, l, row_name(p / 3), HURT_ANY);
+}
+
+/* Tiles that nobody wrote: nearly all of bytes are refused, and of bits some are explained by a line. */
+static void garbage(size_t p, size_t l)
+{
+    for (int kind = 0; kind < GARBAGES; kind++) {
+        for (int round = 0; round < 16; round++) {
+            make_garbage(&chance, p, tile, (enum garbage)kind);
+            repair_and_read(p, l);
+        }
+    }
 }
 
 static void more_than_a_line(size_t p, size_t l)
@@ -129,8 +167,12 @@ void cases_repair(void)
     every_tile_of_bits(2);
     every_tile_of_bits(3);
     for_small_sizes(7, each_two_cells);
+    for_small_sizes(11, each_cell_in_turn);
+    for_small_sizes(11, garbage);
     for_small_sizes(SMALL_SIZE, each_line_in_turn);
     for_small_sizes(SMALL_SIZE, much_more_than_a_line);
     for_all_sizes(&chance, some_lines);
+    for (size_t p = size_above(0); p != 0; p = size_above(p))
+        middle_lines_and_cells(p, house_slope(p));
     for_all_sizes(&chance, a_little_more_than_a_line);
 }

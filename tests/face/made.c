@@ -96,6 +96,14 @@ void make_tile(struct chance *chance, size_t p, size_t l, uint8_t *tile)
     make_good(p, l, text, tile);
 }
 
+void make_garbage(struct chance *chance, size_t p, uint8_t *tile, enum garbage garbage)
+{
+    chance_bytes(chance, tile, tile_length(p));
+    if (garbage == GARBAGE_OF_BITS)
+        for (size_t k = 0; k < tile_length(p); k++)
+            tile[k] &= 1;
+}
+
 size_t row_name(size_t row)
 {
     return row;
@@ -106,6 +114,11 @@ size_t column_name(size_t column)
     return 0x8000 + column;
 }
 
+size_t nth_line(size_t p, size_t n)
+{
+    return n < p - 1 ? row_name(n) : column_name(n - (p - 1));
+}
+
 size_t some_row(struct chance *chance, size_t p)
 {
     return row_name(chance_below(chance, p - 1));
@@ -114,6 +127,11 @@ size_t some_row(struct chance *chance, size_t p)
 size_t some_column(struct chance *chance, size_t p)
 {
     return column_name(chance_below(chance, p - 1));
+}
+
+size_t some_line(struct chance *chance, size_t p)
+{
+    return nth_line(p, chance_below(chance, 2 * (p - 1)));
 }
 
 static uint8_t *nth_of_line(size_t p, uint8_t *tile, size_t line, size_t n)

@@ -39,13 +39,22 @@ void make_text(struct chance *chance, size_t p, enum text_kind kind, uint8_t *te
 /* The good tile of a text of any bytes. */
 void make_tile(struct chance *chance, size_t p, size_t l, uint8_t *tile);
 
+/* A tile of any bytes, and one of which each byte is 0 or 1: of such many can be repaired or filled, though nobody wrote them. */
+enum garbage { GARBAGE_OF_BYTES, GARBAGE_OF_BITS, GARBAGES };
+
+void make_garbage(struct chance *chance, size_t p, uint8_t *tile, enum garbage garbage);
+
 /* A line as cf_fill is told it. */
 size_t row_name(size_t row);
 size_t column_name(size_t column);
 
-/* A row or a column of a tile of size p. */
+/* The n-th of the lines of a tile of size p: its rows, then its columns. */
+size_t nth_line(size_t p, size_t n);
+
+/* A row, a column, or either, of a tile of size p. */
 size_t some_row(struct chance *chance, size_t p);
 size_t some_column(struct chance *chance, size_t p);
+size_t some_line(struct chance *chance, size_t p);
 
 /* Changes one cell of a line, every cell by the same byte, or the cells by any bytes, at least one of them. */
 enum hurt { HURT_ONE, HURT_ALIKE, HURT_ANY, HURTS };
