@@ -6,6 +6,7 @@
 
 #include "ask.h"
 #include "cases.h"
+#include "differences.h"
 #include "made.h"
 #include "sheets.h"
 
@@ -19,11 +20,11 @@ enum state { GOOD, HURT, GARBAGE, STATES };
 static void make_state(size_t p, size_t l, enum state state)
 {
     if (state == GARBAGE)
-        chance_bytes(&chance, tile, tile_length(p));
+        make_garbage(&chance, p, tile, GARBAGE_OF_BYTES);
     else
         make_tile(&chance, p, l, tile);
     if (state == HURT)
-        hurt_line(&chance, p, tile, chance_below(&chance, 2) ? some_row(&chance, p) : some_column(&chance, p), HURT_ANY);
+        hurt_line(&chance, p, tile, some_line(&chance, p), HURT_ANY);
 }
 
 static void correct(size_t p, size_t l)
@@ -39,6 +40,29 @@ static void correct_and_read(size_t p, size_t l, enum state state)
     correct(p, l);
     ask_repair(p, l, tile, tile_length(p));
     ask_read(p, l, tile, tile_length(p), text, text_length(p));
+}
+
+/* The tile is repaired without the sheet and with it. Both have the same answer: a sheet adds a good tile, and what was hurt stays so. */
+static void repair_without_and_with(size_t p, size_t l)
+{
+    static uint8_t bare[LARGEST_TILE];
+    memcpy(bare, tile, tile_length(p));
+    uint64_t without = ask_repair(p, l, bare, tile_length(p));
+    correct(p, l);
+    uint64_t with = ask_repair(p, l, tile, tile_length(p));
+    hold(with == without, "a sheet changed what the peer's repair says, p %zu, l %zu", p, l);
+    ask_read(p, l, tile, tile_length(p), text, text_length(p));
+}
+
+/* The same of a fill. */
+static void fill_without_and_with(size_t p, size_t l, size_t first, size_t second)
+{
+    static uint8_t bare[LARGEST_TILE];
+    memcpy(bare, tile, tile_length(p));
+    uint64_t without = ask_fill(p, l, bare, tile_length(p), first, second);
+    correct(p, l);
+    uint64_t with = ask_fill(p, l, tile, tile_length(p), first, second);
+    hold(with == without, "a sheet changed what the peer's fill says, p %zu, l %zu, lines %zx and %zx hex", p, l, first, second);
 }
 
 static void each_length(size_t p, size_t l)
@@ -68,6 +92,69 @@ static void repeated_places(size_t p, size_t l)
     correct_and_read(p, l, HURT);
 }
 
+/* Records for one place, each with the byte that was and the byte that is to be; 0 stands for the byte that the text holds. */
+struct run {
+    size_t count;
+    uint8_t was_and_is[3][2];
+};
+
+static const struct run runs[] = {
+    {1, {{0, 17}}},                       /* once */
+    {3, {{0, 17}, {17, 200}, {200, 99}}}, /* each record begins with what the one before it ends with */
+    {2, {{0, 17}, {100, 99}}},            /* the second one does not */
+    {2, {{5, 80}, {80, 5}}},              /* a record and its opposite */
+    {2, {{5, 80}, {5, 80}}},              /* a record twice */
+    {1, {{80, 80}}},                      /* a record that changes nothing */
+};
+
+/* Makes a sheet of a run, with a record for another place between two of the run, and gives the byte that the text has to hold then. */
+static uint8_t make_run(const struct run *run, size_t p, size_t row, size_t column, uint8_t byte)
+{
+    uint8_t corrected = byte;
+    sheet.length = 0;
+    for (size_t k = 0; k < run->count; k++) {
+        uint8_t was = run->was_and_is[k][0], is = run->was_and_is[k][1];
+        if (k > 0)
+            add_correction(&sheet, (row + k) % (p - 1), (column + 1) % (p - 3), 1, 2);
+        add_correction(&sheet, row, column, byte ^ was, byte ^ is);
+        corrected ^= was ^ is;
+    }
+    return corrected;
+}
+
+/* Each run over a good tile, and over tiles with a hurt line: the place's own column and row, another column of the text, and each
+ * check column. */
+static void runs_for_one_place(size_t p, size_t l)
+{
+    size_t row = chance_below(&chance, p - 1), column = chance_below(&chance, p - 3);
+    const size_t hurt[] = {column_name(column), column_name((column + 1) % (p - 3)), column_name(p - 3), column_name(p - 2), row_name(row)};
+    enum { HURT_LINES = sizeof hurt / sizeof hurt[0] };
+    for (size_t k = 0; k < sizeof runs / sizeof runs[0]; k++) {
+        for (size_t n = 0; n <= HURT_LINES; n++) {
+            make_state(p, l, GOOD);
+            uint8_t corrected = make_run(&runs[k], p, row, column, tile[row * (p - 1) + column]);
+            if (n < HURT_LINES)
+                hurt_line(&chance, p, tile, hurt[n], HURT_ANY);
+            repair_without_and_with(p, l);
+            hold(text[row * (p - 3) + column] == corrected, "the peer's text does not hold the correction, p %zu, l %zu", p, l);
+        }
+    }
+}
+
+/* Tiles that nobody wrote, repaired and filled without the sheet and with it. */
+static void over_garbage(size_t p, size_t l)
+{
+    for (int kind = 0; kind < GARBAGES; kind++) {
+        for (int round = 0; round < 8; round++) {
+            make_sheet(&sheet, &chance, p, 5);
+            make_garbage(&chance, p, tile, (enum garbage)kind);
+            repair_without_and_with(p, l);
+            make_garbage(&chance, p, tile, (enum garbage)kind);
+            fill_without_and_with(p, l, some_line(&chance, p), some_line(&chance, p));
+        }
+    }
+}
+
 /* Each place of the text by a sheet of its own. */
 static void each_place(size_t p, size_t l)
 {
@@ -81,10 +168,17 @@ static void each_place(size_t p, size_t l)
     }
 }
 
-static void longest(size_t p)
+/* Sheets of thousands of records: the longest is longer than any tile. */
+static void thousands(size_t p)
 {
-    make_sheet(&sheet, &chance, p, MOST_RECORDS);
-    correct_and_read(p, house_slope(p), HURT);
+    static const size_t records[] = {4096, MOST_RECORDS};
+    for (size_t k = 0; k < sizeof records / sizeof records[0]; k++) {
+        for (int state = 0; state < STATES; state++) {
+            make_sheet(&sheet, &chance, p, records[k]);
+            make_state(p, house_slope(p), (enum state)state);
+            repair_without_and_with(p, house_slope(p));
+        }
+    }
 }
 
 /* Records in which a fault stands: the first, one in the middle, the last. */
@@ -102,6 +196,44 @@ static void one_fault(size_t p, size_t l)
             correct(p, l);
         }
     }
+}
+
+/* Each byte in the place of each byte of the mark. */
+static void each_byte_of_a_mark(size_t p, size_t l)
+{
+    make_state(p, l, HURT);
+    for (size_t k = 0; k < PLACES; k++) {
+        for (size_t n = 0; n < 2; n++) {
+            for (unsigned byte = 0; byte < 256; byte++) {
+                make_sheet(&sheet, &chance, p, RECORDS);
+                sheet.bytes[faulty_records[k] * SHEET_RECORD + n] = (uint8_t)byte;
+                correct(p, l);
+            }
+        }
+    }
+}
+
+/* A record's place as the sheet's only one, then as the first, a middle and the last. */
+static void one_place_named(size_t p, size_t l, size_t row, size_t column)
+{
+    sheet.length = 0;
+    add_correction(&sheet, row, column, 90, 15);
+    correct(p, l);
+    for (size_t k = 0; k < PLACES; k++) {
+        make_sheet(&sheet, &chance, p, RECORDS);
+        put_place(&sheet, faulty_records[k], row, column);
+        correct(p, l);
+    }
+}
+
+/* Places on each side of the text's edges, and numbers of which the high byte counts, or both: a row with a column of each kind. */
+static void places_at_the_edges(size_t p, size_t l)
+{
+    const size_t rows[] = {0, 1, p - 2, p - 1, 256, 0xFFFF}, columns[] = {0, 1, p - 4, p - 3, p - 2, 256, 0xFFFF};
+    make_state(p, l, GOOD);
+    for (size_t i = 0; i < sizeof rows / sizeof rows[0]; i++)
+        for (size_t j = 0; j < sizeof columns / sizeof columns[0]; j++)
+            one_place_named(p, l, rows[i], columns[j]);
 }
 
 /* Two faults, in one record or in two: the first faulty record decides, and in a record the mark does. */
@@ -151,6 +283,23 @@ static void refused_before_the_sheet(size_t p, size_t l)
     }
 }
 
+/* Every set of faults, of those that a call and its sheet can have: which number is given shows the order of all of them. */
+static void every_set_of_faults(size_t p, size_t l)
+{
+    enum { SIZE = 1, SLOPE = 2, TILE = 4, CUT = 8, MARK = 16, PLACE = 32, ALL = 63 };
+    uint64_t count;
+    make_state(p, l, HURT);
+    for (unsigned faults = 0; faults <= ALL; faults++) {
+        make_sheet(&sheet, &chance, p, 5);
+        if (faults & MARK)
+            put_fault(&sheet, p, 0, FIRST_MARK_BYTE);
+        if (faults & PLACE)
+            put_fault(&sheet, p, 0, ROW_JUST_ABOVE);
+        ask_correct(faults & SIZE ? 9 : p, faults & SLOPE ? 0 : l, tile, tile_length(p) - (faults & TILE ? 1 : 0), sheet.bytes,
+                    sheet.length - (faults & CUT ? 7 : 0), &count);
+    }
+}
+
 /* Records with places up to one past the last of the text: some sheets are sound, and some are not. */
 static void around_the_edges(size_t p, size_t l)
 {
@@ -178,7 +327,11 @@ void cases_sheet(void)
     for_small_sizes(SMALL_SIZE, repeated_places);
     for_small_sizes(SMALL_SIZE, around_the_edges);
     for_small_sizes(SMALL_SIZE, any_bytes);
+    for_small_sizes(11, runs_for_one_place);
+    for_small_sizes(11, over_garbage);
     for_small_sizes(11, each_place);
+    for_small_sizes(7, places_at_the_edges);
+    for_small_sizes(7, every_set_of_faults);
     for_small_sizes(SMALL_SIZE, one_fault);
     for_small_sizes(7, two_faults);
     for_small_sizes(7, each_number_of_bytes);
@@ -189,10 +342,14 @@ void cases_sheet(void)
         make_sheet(&sheet, &chance, p, 1 + chance_below(&chance, 200));
         correct_and_read(p, l, (enum state)(p % STATES));
     }
+    each_byte_of_a_mark(7, 3);
+    places_at_the_edges(257, 3);
     one_fault(257, 3);
     two_faults(257, 3);
     each_number_of_bytes(257, 3);
-    longest(5);
-    longest(67);
-    longest(257);
+    thousands(5);
+    thousands(31);
+    thousands(67);
+    thousands(127);
+    thousands(257);
 }

@@ -30,6 +30,13 @@ void make_sheet(struct sheet *sheet, struct chance *chance, size_t p, size_t rec
     }
 }
 
+void put_place(struct sheet *sheet, size_t record, size_t row, size_t column)
+{
+    uint8_t *bytes = &sheet->bytes[record * SHEET_RECORD];
+    put_number(&bytes[2], row);
+    put_number(&bytes[4], column);
+}
+
 void put_fault(struct sheet *sheet, size_t p, size_t record, enum sheet_fault fault)
 {
     uint8_t *mark = &sheet->bytes[record * SHEET_RECORD], *row = mark + 2, *column = mark + 4;
@@ -38,6 +45,7 @@ void put_fault(struct sheet *sheet, size_t p, size_t record, enum sheet_fault fa
     case SECOND_MARK_BYTE: mark[1] ^= 0x80; break;
     case MARK_SWAPPED: put_number(mark, 0x3CC3); break;
     case MARK_OF_A_REEL: put_number(mark, 0xD55D); break;
+    case MARK_OF_ZEROS: put_number(mark, 0); break;
     case ROW_JUST_ABOVE: put_number(row, p - 1); break;
     case ROW_LARGEST: put_number(row, 0xFFFF); break;
     case ROW_HIGH_BYTE: row[0] ^= 0x80; break;
