@@ -1,13 +1,17 @@
-/* Reels: asked at every place and cut at every byte where they are small, with every fault of a record, and with tiles of all sizes. */
+/* Reels: asked at every place and cut at every byte where they are small, with every fault of a record, with tiles of all sizes, with
+ * many tiles, and of any bytes. */
 
 #include <stddef.h>
 #include <stdint.h>
+#include <string.h>
 
 #include "ask.h"
 #include "cases.h"
 #include "made.h"
 
 enum { HEADER = 10, LONGEST_REEL = 300000 };
+
+#define COUNT_OF(list) (sizeof(list) / sizeof(list)[0])
 
 static struct chance chance;
 
@@ -61,12 +65,12 @@ static void each_place(size_t length)
 }
 
 /* Places far past the end: with the header's length added, the largest are small again. */
-static void far_places(void)
+static void far_places(size_t length)
 {
     for (size_t k = 0; k < FAR_NUMBERS; k++)
-        next(reel.length, far_numbers[k]);
+        next(length, far_numbers[k]);
     for (size_t below = 0; below <= 2 * HEADER + 16; below++)
-        next(reel.length, SIZE_MAX - below);
+        next(length, SIZE_MAX - below);
 }
 
 /* Walks as a caller does, from tile to tile, until no tile is answered. */
@@ -78,13 +82,29 @@ static void walk(size_t length)
         at = found.offset + tile_length(found.p);
 }
 
+/* The same walk, but each time what is left is handed on as a reel of its own. */
+static void walk_by_rest(size_t length)
+{
+    struct found found;
+    size_t at = 0;
+    while (at <= length && ask_next(&reel.bytes[at], length - at, 0, &found) == word_done())
+        at += found.offset + tile_length(found.p);
+}
+
+static void walk_both_ways(size_t length)
+{
+    walk(length);
+    walk_by_rest(length);
+}
+
 static void small_reels(void)
 {
     static const size_t sizes[] = {5, 7};
     make_reel(sizes, 2);
     for (size_t length = 0; length <= reel.length; length++)
         each_place(length);
-    far_places();
+    far_places(reel.length);
+    far_places(0);
 }
 
 static void small_reels_mixed(void)
@@ -93,8 +113,8 @@ static void small_reels_mixed(void)
     make_reel(sizes, 5);
     each_place(reel.length);
     for (size_t length = 0; length <= reel.length; length++)
-        walk(length);
-    far_places();
+        walk_both_ways(length);
+    far_places(reel.length);
 }
 
 /* Two tiles, of which the second's header is changed: its mark, then its size, then its slope. */
@@ -143,13 +163,57 @@ static void faults_that_meet(void)
     }
 }
 
+/* Marks, sizes with slopes, and numbers of bytes that are there, on both sides of each edge and each with each: the order of refusals
+ * shows in records with several faults. */
+static const size_t marks[] = {0xD55D, 0xD45D, 0x005D, 0xD55C, 0xD500, 0, 0x5DD5, 0xC33C};
+static const size_t sizes_with_slopes[][2] = {
+    {0, 2},  {1, 2},    {4, 2},     {6, 2},  {9, 2},  {9, 0},  {256, 2}, {258, 2},  {261, 2},  {1285, 2}, {65535, 2},  {5, 0},
+    {5, 1},  {5, 2},    {5, 3},     {5, 4},  {5, 5},  {5, 258}, {5, 65535}, {7, 0}, {7, 1},    {7, 2},    {7, 3},      {7, 5},
+    {7, 6},  {7, 7},    {7, 65535}, {17, 0}, {17, 1}, {17, 2}, {17, 3},  {17, 14},  {17, 15},  {17, 16},  {17, 17},    {17, 65535},
+};
+static const size_t numbers_of_bytes[] = {1, 9, 10, 25, 26, 45, 46, 265, 266};
+
+/* A record at the reel's end: asked for at its place, and as the first of a reel; and the reel is walked up to it. */
+static void ask_last_record(size_t at, size_t length)
+{
+    struct found found;
+    next(at + length, at);
+    ask_next(&reel.bytes[at], length, 0, &found);
+    walk(at + length);
+}
+
+static void last_records(size_t at, size_t mark)
+{
+    for (size_t k = 0; k < COUNT_OF(sizes_with_slopes); k++) {
+        put_header(at, sizes_with_slopes[k][0], sizes_with_slopes[k][1], 9);
+        put_number(&reel.bytes[at], 2, mark);
+        for (size_t n = 0; n < COUNT_OF(numbers_of_bytes); n++)
+            ask_last_record(at, numbers_of_bytes[n]);
+    }
+}
+
+/* Behind no record, behind one, two and three. */
+static void faults_behind_whole_records(void)
+{
+    static const size_t sizes[] = {5, 7, 11};
+    for (size_t whole = 0; whole <= COUNT_OF(sizes); whole++) {
+        make_reel(sizes, whole);
+        size_t at = reel.length;
+        add_tile(17, 3, 9);
+        for (size_t k = 0; k < COUNT_OF(marks); k++)
+            last_records(at, marks[k]);
+    }
+}
+
+/* The smallest and the largest, those in which another byte counts, and numbers that come again. */
 static void tile_numbers(void)
 {
-    static const uint32_t numbers[] = {0, 1, 0xFF, 0x100, 0xFFFF, 0x10000, 0x7FFFFFFF, 0x80000000, 0xFFFFFFFE, 0xFFFFFFFF, 0x01020304};
+    static const uint32_t numbers[] = {0,          1,          0xFF,       0x100,      0xFFFF, 0x10000, 0x1000000,  0x7FFFFFFF,
+                                       0x80000000, 0xFFFFFFFE, 0xFFFFFFFF, 0x01020304, 7,      7,       0xFFFFFFFF, 7};
     reel.length = 0;
-    for (size_t k = 0; k < sizeof numbers / sizeof numbers[0]; k++)
+    for (size_t k = 0; k < COUNT_OF(numbers); k++)
         add_tile(5, 2, numbers[k]);
-    walk(reel.length);
+    walk_both_ways(reel.length);
 }
 
 /* One tile of each size, with something behind it: whole, cut by one byte, cut to the header, and in the middle. */
@@ -161,7 +225,7 @@ static void each_size(void)
         walk(reel.length);
         size_t record = HEADER + tile_length(p);
         const size_t lengths[] = {record, record - 1, record + 1, HEADER, HEADER + 1, HEADER - 1, record / 2};
-        for (size_t k = 0; k < sizeof lengths / sizeof lengths[0]; k++)
+        for (size_t k = 0; k < COUNT_OF(lengths); k++)
             walk(lengths[k]);
     }
 }
@@ -169,7 +233,7 @@ static void each_size(void)
 static void large_reels(void)
 {
     static const size_t sizes[][6] = {{257, 5, 101, 257, 7, 251}, {5, 251, 257, 11, 31, 257}, {193, 257, 257, 5, 5, 7}};
-    for (size_t k = 0; k < sizeof sizes / sizeof sizes[0]; k++) {
+    for (size_t k = 0; k < COUNT_OF(sizes); k++) {
         make_reel(sizes[k], 6);
         walk(reel.length);
         walk(reel.length - 1);
@@ -179,7 +243,48 @@ static void large_reels(void)
     }
 }
 
-/* Bytes of any kind, in which records' headers stand anywhere. */
+/* Reels of up to 130 tiles: whole, without the last byte, and with 9 and 10 bytes of any kind behind them, of which 9 are no header. */
+static void long_reels(void)
+{
+    static const size_t counts[] = {1, 2, 3, 4, 5, 6, 7, 8, 10, 12, 16, 20, 24, 32, 48, 64, 96, 130};
+    for (size_t k = 0; k < COUNT_OF(counts); k++) {
+        size_t sizes[130];
+        for (size_t n = 0; n < counts[k]; n++)
+            sizes[n] = size_above(chance_below(&chance, 23));
+        make_reel(sizes, counts[k]);
+        chance_bytes(&chance, &reel.bytes[reel.length], HEADER);
+        walk_both_ways(reel.length);
+        walk_both_ways(reel.length - 1);
+        walk_both_ways(reel.length + HEADER - 1);
+        walk_both_ways(reel.length + HEADER);
+    }
+}
+
+/* Bytes of any kind, in which sound headers begin anywhere: so many bytes of each are laid, and later ones may lie over earlier. */
+static void planted_headers(size_t length, size_t planted)
+{
+    chance_bytes(&chance, reel.bytes, length);
+    for (size_t k = 0; k < length / 16; k++) {
+        uint8_t kept[HEADER];
+        size_t p = size_above(chance_below(&chance, 23)), at = chance_below(&chance, length);
+        memcpy(kept, &reel.bytes[at], HEADER);
+        put_header(at, p, house_slope(p), (uint32_t)k);
+        memcpy(&reel.bytes[at + planted], &kept[planted], HEADER - planted);
+    }
+    each_place(length);
+}
+
+/* Nothing is laid, the mark, the size too, the slope too, and all. */
+static void garbage(void)
+{
+    static const size_t lengths[] = {0, 1, 9, 10, 11, 25, 26, 27, 60, 100, 200, 500, 1000}, planted[] = {0, 2, 4, 6, HEADER};
+    for (size_t k = 0; k < COUNT_OF(lengths); k++)
+        for (size_t n = 0; n < COUNT_OF(planted); n++)
+            for (int round = 0; round < 3; round++)
+                planted_headers(lengths[k], planted[n]);
+}
+
+/* Bytes of any kind, in which records' headers stand anywhere, of sizes and slopes that are right and that are not. */
 static void any_bytes(void)
 {
     for (int round = 0; round < 60; round++) {
@@ -200,8 +305,11 @@ void cases_reel(void)
     small_reels_mixed();
     faulty_headers();
     faults_that_meet();
+    faults_behind_whole_records();
     tile_numbers();
     each_size();
     large_reels();
+    long_reels();
+    garbage();
     any_bytes();
 }
