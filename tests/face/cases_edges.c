@@ -157,6 +157,18 @@ static void each_length(size_t p)
         ask_all(&told);
 }
 
+/* A text and a tile of which both lengths may be wrong, from nothing on. */
+static void each_length_with_each(size_t p)
+{
+    struct told told = sound(p);
+    for (told.tile_len = 0; told.tile_len <= tile_length(p) + 1; told.tile_len++) {
+        for (told.text_len = 0; told.text_len <= text_length(p) + 1; told.text_len++) {
+            ask_write(told.p, told.l, text, told.text_len, tile, told.tile_len);
+            ask_read(told.p, told.l, tile, told.tile_len, text, told.text_len);
+        }
+    }
+}
+
 void cases_edges(void)
 {
     chance = chance_from(6);
@@ -167,4 +179,5 @@ void cases_edges(void)
     each_line_at_its_edge(LARGEST_SIZE);
     for (size_t p = size_above(0); p <= 11; p = size_above(p))
         each_length(p);
+    each_length_with_each(5);
 }

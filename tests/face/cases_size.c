@@ -5,9 +5,10 @@
 
 #include "ask.h"
 #include "cases.h"
+#include "differences.h"
 #include "made.h"
 
-/* Sizes are tried from 0 on up to here. */
+/* Sizes and slopes are tried from 0 on up to here. */
 enum { LAST_TRIED = 300, LONGEST_TILE = (LAST_TRIED - 1) * (LAST_TRIED - 1) };
 
 static uint8_t tile[LONGEST_TILE], text[LONGEST_TILE];
@@ -25,31 +26,53 @@ static void ask_tile_calls(size_t p, size_t l, size_t tile_len, size_t text_len)
 }
 
 /* A reel that holds a record's header alone is refused with 1, 2 or 7: so each slope of each size is judged at little cost. */
-static void ask_header(size_t p, size_t l)
+static uint64_t ask_header(size_t p, size_t l)
 {
     uint8_t header[10] = {0xD5, 0x5D, (uint8_t)(p >> 8), (uint8_t)p, (uint8_t)(l >> 8), (uint8_t)l, 0, 0, 0, 1};
     struct found found;
-    ask_next(header, sizeof header, 0, &found);
+    return ask_next(header, sizeof header, 0, &found);
 }
 
 static void each_number_as_size(void)
 {
     for (size_t p = 0; p <= LAST_TRIED; p++) {
         ask_house_slope(p);
-        ask_header(p, 2);
-        ask_header(p, 3);
+        for (size_t l = 0; l <= 3; l++)
+            ask_header(p, l);
         if (p >= 3)
             ask_tile_calls(p, is_size(p) ? house_slope(p) : 2, tile_length(p), text_length(p));
         else
             ask_tile_calls(p, 2, 1, 1);
+        if (!is_size(p))
+            ask_tile_calls(p, 0, 16, 8);
     }
 }
 
+/* How many of the numbers from 1 to n have no divisor but 1 in common with n. */
+static size_t count_coprime(size_t n)
+{
+    size_t count = 0;
+    for (size_t k = 1; k <= n; k++) {
+        size_t a = n, b = k;
+        while (b != 0) {
+            size_t rest = a % b;
+            a = b;
+            b = rest;
+        }
+        count += a == 1;
+    }
+    return count;
+}
+
+/* All slopes of a size, and how many of them are taken: of the p-1 powers of one slope those with an exponent coprime to p-1 serve. */
 static void each_slope_of_each_size(void)
 {
-    for (size_t p = size_above(0); p != 0; p = size_above(p))
-        for (size_t l = 0; l <= p + 3; l++)
-            ask_header(p, l);
+    for (size_t p = size_above(0); p != 0; p = size_above(p)) {
+        size_t taken = 0;
+        for (size_t l = 0; l <= LAST_TRIED; l++)
+            taken += ask_header(p, l) == word_refused(CUT_SHORT);
+        hold(taken == count_coprime(p - 1), "the size %zu: the peer takes %zu slopes", p, taken);
+    }
 }
 
 static void each_slope_in_tile_calls(void)

@@ -113,7 +113,7 @@ static void refused(void)
     }
 }
 
-/* The whole case of the reel: two tiles and one byte more. */
+/* The whole case of the reel: two tiles and one byte more. It is asked at every place, and far behind its end. */
 static void walked(void)
 {
     static const uint8_t reel[53] = {[0] = 0xD5, [1] = 0x5D, [3] = 5, [5] = 2, [9] = 7, [26] = 0xD5, [27] = 0x5D,
@@ -134,6 +134,12 @@ static void walked(void)
         hold(said == answer(places[k].kind, places[k].first) && memcmp(&found, &places[k].found, sizeof found) == 0,
              "the reel of document 01: the peer says otherwise at %zu", places[k].at);
     }
+    static const size_t far[] = {(size_t)1 << 63, SIZE_MAX - 26, SIZE_MAX - 9, SIZE_MAX - 1, SIZE_MAX};
+    struct found found;
+    for (size_t at = 0; at <= 60; at++)
+        ask_next(reel, sizeof reel, at, &found);
+    for (size_t k = 0; k < sizeof far / sizeof far[0]; k++)
+        ask_next(reel, sizeof reel, far[k], &found);
 }
 
 /* The house slopes as document 01 lists them, and no other sizes. */
