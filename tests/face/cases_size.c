@@ -43,8 +43,10 @@ static void each_number_as_size(void)
             ask_tile_calls(p, is_size(p) ? house_slope(p) : 2, tile_length(p), text_length(p));
         else
             ask_tile_calls(p, 2, 1, 1);
-        if (!is_size(p))
+        if (!is_size(p)) {
+            ask_tile_calls(p, 2, 16, 8);
             ask_tile_calls(p, 0, 16, 8);
+        }
     }
 }
 
