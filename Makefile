@@ -7,14 +7,17 @@
 # make face    the C library alone: its header, the examples, an installation, and some hundred thousand calls compared
 # make bench   measure the C library beside others, and write the tables of docs/BENCHMARK.md (needs python3)
 # make reels   run the program `list` on thousands of reels, and compare with what document 01 asks for (needs python3)
-# make expected   work out again what the programs `worked` and `reading` have to print, and hold the stored texts to it; and the same
-#                 for the sample reels, and for what the gate runs `list` on (needs python3)
+# make expected   work out again what the program `worked` has to print, and hold the stored text to it; and the same for the sample
+#                 reels, and for what the gate runs `list` on (needs python3)
 
 REEL ?= samples/short.reel
 PREFIX ?= /usr/local
 VERSION = 0.1.0
 
 ARCHIVE = target/staticlib/libcounterfrost.a
+
+# How many crates, or edits, rt proves at a time: one more than there are cores, so that none is idle while the last of a batch is proved.
+export RT_JOBS ?= $(shell n=$$(nproc); echo $$((n < 4 ? n + 1 : 5)))
 
 .PHONY: test check list lib install face bench reels expected target/bin/list
 
@@ -28,8 +31,7 @@ check:
 
 # Proves `list` and builds it, where something has changed since. Standard output is kept for the listing.
 target/bin/list:
-	@[ -x $@ ] || echo "proving the program list, once: two to three minutes" >&2
-	@said=$$(rt check list 2>&1) || { echo "$$said" >&2; exit 1; }
+	@tools/prove list
 
 list: target/bin/list
 	@. tests/tools && choose_tools && run_made target/bin/list < "$(REEL)"
@@ -37,7 +39,8 @@ list: target/bin/list
 lib: $(ARCHIVE)
 
 $(ARCHIVE): crates.txt $(shell find crates -name '*.rt' -o -name '*.antt')
-	@echo "proving the C library and building $@: one to three minutes"
+	@tools/prove $$(sed -n 's/^counterfrost: *//p' crates.txt)
+	@echo "proving the crate counterfrost and building $@" >&2
 	@said=$$(rt staticlib counterfrost 2>&1) || { echo "$$said" >&2; exit 1; }
 
 # The program gets a longer name there: `list` is too common a word for a folder that is shared.
@@ -62,5 +65,4 @@ reels: target/bin/list
 
 expected:
 	@python3 tests/expected_worked.py | diff - crates/worked/stdout && echo "crates/worked/stdout is what document 01 asks for"
-	@python3 tests/expected_reading.py | diff - crates/reading/stdout && echo "crates/reading/stdout is what document 01 asks for"
 	@python3 tests/samples.py

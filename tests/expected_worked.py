@@ -1,12 +1,34 @@
-"""What the program `worked` has to print. It is worked out from document 01 alone, never from the program: each thing that the document
-says is held against the rule that it gives, and the text is printed only where both agree. The parts stand in tests/expected/; the
-answers of the tile calls come from the definition of a good tile by elimination (tests/expected/tile.py)."""
+"""What the program `worked` has to print for its script, crates/worked/stdin. It is worked out from the rules of document 01, never from
+the program. And what the documents themselves say of the worked tiles, the paper's examples and the whole case is held against it: the
+script must ask it, and the rules must give the document's answer; only then is the text printed."""
 
 import sys
 
 sys.dont_write_bytecode = True  # leave no files beside the sources
 
-from expected import corrections, edges, garbage, hurt, lost, paper, sizes, tiles  # noqa: E402
+from pathlib import Path  # noqa: E402
 
-for part in (sizes, tiles, paper, lost, hurt, edges, garbage, *corrections.PARTS):
-    part.print_cases()
+from expected import paper, tiles  # noqa: E402
+from expected.reel import WHOLE_CASE, WHOLE_PLACES  # noqa: E402
+from expected.script import run  # noqa: E402
+
+SCRIPT = Path(__file__).resolve().parent.parent / "crates/worked/stdin"
+
+printed, asked = run(SCRIPT.read_text(encoding="ascii"))
+
+
+def says(name, p, l, held, lent, answer=None, left=None, lines=(), begins=""):
+    """The script asks this, and the answer is this, or begins with this, and leaves these bytes, as far as they are given."""
+    found = [(said, kept) for one, said, kept in asked if one == (name, p, l, lines, held, lent)]
+    assert found, f"the script does not ask {name} {p} {l} {lines} of {held} and {lent}"
+    for said, kept in found:
+        assert said.startswith(begins), f"{name} {p} {l} of {held}: {said} worked out, {begins} said"
+        assert answer in (None, said), f"{name} {p} {l} of {held}: {said} worked out, {answer} said"
+        assert left in (None, kept), f"{name} {p} {l} of {held}: {kept} worked out, {left} said"
+
+
+tiles.hold(says)
+paper.hold(says)
+for at, stands in WHOLE_PLACES.items():
+    says("place", at, 0, list(WHOLE_CASE), [], left=list(WHOLE_CASE), begins=stands)
+print(printed, end="")

@@ -1,2 +1,1 @@
-"""What the programs `worked`, `reading` and `list` have to print, part by part. Each part works its lines out from document 01, never from a
-program."""
+"""What the programs `worked` and `list` have to print, worked out from document 01 and the paper, never from a program."""

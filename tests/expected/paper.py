@@ -1,7 +1,8 @@
-"""The examples of document 000, the paper. The arrays are typed from the scan with its row and column of added zeros; what the paper
-says of them is asserted. Its numbers that the scan has wrong are said where they stand."""
+"""The examples of document 000, the paper. The arrays are typed from the scan with its row and column of added zeros. What the paper says
+of them is asserted; the script must ask it, and the answer that the rules give must be the paper's. Its numbers that the scan has wrong
+are said where they stand."""
 
-from expected.tile import fill, is_good, parsed, place, read, repair, shown, sums, text_length, text_of, write
+from expected.tile import is_good, parsed, place, sums, text_length, text_of
 
 EXAMPLE_2_1 = """0 1 1 1 0
 1 0 0 1 0
@@ -86,19 +87,17 @@ def polynomial(*powers):
     return [c ^ folded[6] for c in folded[:6]]
 
 
-def print_sums(name, p, l, tile):
-    """The sums along both slopes, and whether the tile is good."""
-    verdict = "good" if is_good(p, l, tile) else "not good"
-    print(f"example {name} sums {shown(sums(p, 1, tile) + sums(p, l, tile), p)} {verdict}")
+def hold_sums(says, p, l, tile, common=None):
+    """The sums along both slopes are asked for. Where a common byte is given, all are said to be that."""
+    for slope in (1, l):
+        says("sums", p, slope, tile, [], *(["sums:" + f" {common:02x}" * p] if common is not None else []))
 
 
-def print_good_at_5(name, l, scan, common):
+def hold_good_at_5(says, l, scan):
     """Examples 2.1 and 2.2: all sums are said to be odd."""
     tile = array(scan)
-    assert set(sums(5, 1, tile) + sums(5, l, tile)) == {common}
-    print_sums(name, 5, l, tile)
-    answer, text = read(5, l, tile, [0] * 8)
-    print(f"example {name} read {answer}: {shown(text, 2)}")
+    hold_sums(says, 5, l, tile, 1)
+    says("read", 5, l, [7] * 8, tile, "done", text_of(5, tile))
 
 
 def cross(p, l):
@@ -112,52 +111,39 @@ def cross(p, l):
     return u, tile
 
 
-def print_refused(name, p, l, u_of_paper):
+def hold_refused(says, p, l, u_of_paper):
     """Examples 3.1 and 3.2: good along a slope that the calls refuse. The scan's pictures have a sign too many in the first row (3.1)
     or in every row and column (3.2); the sets U in the proof of Theorem 3.1 are right, and Lemma 2.1 holds of their arrays."""
     u, tile = cross(p, l)
-    assert u == u_of_paper and is_good(p, l, tile) and set(sums(p, 1, tile)) == {0}
-    print_sums(name, p, l, tile)
-    lent = [0] * text_length(p)
-    answers = read(p, l, tile, lent), repair(p, l, tile), fill(p, l, tile, ("row", 0), ("column", 0))
-    for call, (answer, after) in zip(("read", "repair", "fill"), answers):
-        assert answer == "refused 2" and after in (lent, tile)
-        print(f"example {name} {call} {answer}")
-    print_sums(name, p, l, tile)
+    assert u == u_of_paper and is_good(p, l, tile)
+    hold_sums(says, p, l, tile, 0)
+    text = [0] * text_length(p)
+    says("read", p, l, text, tile, "refused 2", text)
+    says("mend", p, l, tile, [], "refused 2", tile)
+    says("fill", p, l, tile, [], "refused 2", tile, (("row", 0), ("column", 0)))
 
 
-def print_low_rank():
-    """The array after Theorem 3.1 belongs to C(7, 3)."""
-    tile = array(LOW_RANK)
-    assert is_good(7, 3, tile)
-    print_sums("rank 2", 7, 3, tile)
-
-
-def print_example_4_1():
+def hold_example_4_1(says):
     """A row in error. The syndromes are those of the paper, and so is the answer: row 3, since no column explains."""
-    tile = array(RECEIVED_4_1)
+    tile, corrected = array(RECEIVED_4_1), array(CORRECTED_4_1)
     turned = [tile[place(7, j, i)] for i in range(6) for j in range(6)]
     assert syndrome(7, 1, tile) == polynomial(2, 3, 5)
     assert syndrome(7, 3, tile) == polynomial(0, 2, 3)
     assert syndrome(7, 5, turned) == polynomial(0, 1, 3)
-    print_sums("4.1", 7, 3, tile)
-    answer, repaired = repair(7, 3, tile)
-    assert answer == "row 3" and repaired == array(CORRECTED_4_1)
-    print(f"example 4.1 repair {answer}: {shown(repaired, 6)}")
-    print_sums("4.1", 7, 3, repaired)
+    assert not is_good(7, 3, tile) and is_good(7, 3, corrected)
+    hold_sums(says, 7, 3, tile)
+    says("mend", 7, 3, tile, [], "row 3", corrected)
+    hold_sums(says, 7, 3, corrected)
 
 
-def print_filled(name, scan, first, second):
-    """Two lines erased. The decoded array is the paper's; its text writes it again."""
-    tile = array(scan)
-    print_sums(name, 7, 3, tile)
-    answer, filled = fill(7, 3, array(scan, 1), first, second)
-    assert answer == "done" and filled == array(DECODED_4_2) and set(sums(7, 1, filled)) == {0}
-    print(f"example {name} fill {answer}: {shown(filled, 6)}")
-    print_sums(name, 7, 3, filled)
-    answer, written = write(7, 3, text_of(7, filled), filled)
-    assert written == filled
-    print(f"example {name} write {answer}: {shown(written, 6)}")
+def hold_filled(says, scan, *lines):
+    """Two lines erased. The sums are asked for with zeros for the erased bits. The decoded array is the paper's; its text writes it again."""
+    decoded = array(DECODED_4_2)
+    hold_sums(says, 7, 3, array(scan))
+    says("fill", 7, 3, array(scan, 255), [], "done", decoded, lines)
+    hold_sums(says, 7, 3, decoded, 0)
+    says("read", 7, 3, [7] * 24, decoded, "done", text_of(7, decoded))
+    says("write", 7, 3, [7] * 36, text_of(7, decoded), "done", decoded)
 
 
 def check_example_4_2():
@@ -182,15 +168,16 @@ def check_example_4_3():
     assert sums(7, 3, tile) == [1, 1, 1, 0, 0, 0, 0]
 
 
-def print_cases():
-    """All lines of this part."""
-    print_good_at_5("2.1", 2, EXAMPLE_2_1, 1)
-    print_good_at_5("2.2", 3, EXAMPLE_2_2, 1)
-    print_refused("3.1", 7, 2, {1, 2, 4})
-    print_refused("3.2", 17, 2, {3, 5, 6, 7, 10, 11, 12, 14})
-    print_low_rank()
-    print_example_4_1()
+def hold(says):
+    """All of them."""
+    hold_good_at_5(says, 2, EXAMPLE_2_1)
+    hold_good_at_5(says, 3, EXAMPLE_2_2)
+    hold_refused(says, 7, 2, {1, 2, 4})
+    hold_refused(says, 17, 2, {3, 5, 6, 7, 10, 11, 12, 14})
+    assert is_good(7, 3, array(LOW_RANK))
+    hold_sums(says, 7, 3, array(LOW_RANK), 1)
+    hold_example_4_1(says)
     check_example_4_2()
-    print_filled("4.2", RECEIVED_4_2, ("column", 2), ("column", 4))
+    hold_filled(says, RECEIVED_4_2, ("column", 2), ("column", 4))
     check_example_4_3()
-    print_filled("4.3", RECEIVED_4_3, ("row", 4), ("column", 2))
+    hold_filled(says, RECEIVED_4_3, ("row", 4), ("column", 2))

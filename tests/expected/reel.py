@@ -70,5 +70,7 @@ WHOLE_LISTING = """\
 stopped 7 52
 """
 assert len(WHOLE_CASE) == 53 and listing(WHOLE_CASE) == WHOLE_LISTING
+# What a reader finds at the places of its records: the tiles that are listed, with the offsets of their bytes, and the refusal.
+WHOLE_PLACES = {0: "tile 7 5 2 at 10 ", 26: "tile 8 5 2 at 36 ", 52: "refused 7 at 52 "}
 # "An empty input gives `end 0`."
 assert listing(b"") == "end 0\n"

@@ -2,8 +2,7 @@
 
 from math import gcd
 
-LAST = 300  # sizes and slopes are asked for from 0 to here
-LARGEST = 2**64 - 1  # the largest number that a caller can give
+LAST = 300  # sizes and slopes are looked for from 0 to here
 
 # The sentence of "Sizes and slopes" that lists the house slope of each size.
 HOUSE_SLOPES = """
@@ -60,19 +59,3 @@ assert all(len(SLOPES[p]) == phi(p - 1) for p in SIZES)
 assert [verdict(p, 2) for p in (4, 9, 258)] == ["refused 1"] * 3 and is_size(5) and is_size(257)
 assert [verdict(7, l) for l in (2, 6, 3, 5)] == ["refused 2", "refused 2", "taken", "taken"]
 assert [verdict(p, 2) for p in (5, 7, 17)] == ["taken", "refused 2", "refused 2"]
-
-
-def print_cases():
-    """All lines of this part."""
-    for p in range(LAST + 1):
-        print("house", p, HOUSE.get(p, "refused 1"))
-        if p in SIZES:
-            print("slopes", p, len(SLOPES[p]))
-    print("sizes taken:", len(SIZES))
-    for p in (4, 9, 258, 5, 257):
-        print("size", p, verdict(p, HOUSE.get(p, 2)))
-    for p in (7, 5, 17):
-        for l in range(p + 1):
-            print("slope", p, l, verdict(p, l))
-    for p, l in ((9, 0), (0, 0), (258, 1), (7, 0), (LARGEST, 3), (7, LARGEST), (LARGEST, LARGEST)):
-        print("judge", p, l, verdict(p, l))

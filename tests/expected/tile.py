@@ -201,17 +201,6 @@ def fill(p, l, tile, first, second):
     return "done", filled
 
 
-def shown(tile, width):
-    """A tile or a text as document 01 shows it: rows parted by a stroke."""
-    rows = [tile[k : k + width] for k in range(0, len(tile), width)]
-    return " / ".join(" ".join(map(str, row)) for row in rows)
-
-
 def parsed(picture, lost=0):
-    """The bytes of what document 01 shows, with `lost` for a question mark."""
+    """The bytes of what document 01 shows, rows parted by a stroke, with `lost` for a question mark."""
     return [lost if sign == "?" else int(sign) for sign in picture.split() if sign != "/"]
-
-
-def line_text(line):
-    """A line as the program prints it."""
-    return f"{line[0]} {line[1]}"

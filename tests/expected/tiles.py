@@ -1,7 +1,8 @@
-"""The worked tiles 1 to 11, at p 5 and l 2. What document 01 says of each is held against what the equations give."""
+"""The worked tiles of document 01, 1 to 11 at p 5 and l 2, and what it says of each: the script must ask it, of these bytes, and the
+answer that the rules give must be the document's."""
 
-from expected.sheet import correct, record
-from expected.tile import fill, parsed, read, repair, shown, sums, write
+from expected.sheet import record
+from expected.tile import parsed
 
 P, L = 5, 2
 
@@ -24,6 +25,15 @@ FILLED = {
     9: ((1, 1), "0 1 0 1 / 1 1 0 0 / 1 0 0 0 / 1 0 0 0"),
     10: ((2, 3), None),
 }
+LOST = (0, 255)  # what stands in the lost cells
+OTHER = 7  # what stands in a tile before it is written, and in a text before it is read
+# Worked tile 12: how sizes are judged, each with a slope that would do, and slopes at 7.
+JUDGED = {
+    **{(4, 2): "refused 1", (9, 2): "refused 1", (258, 2): "refused 1", (5, 2): "taken", (257, 3): "taken"},
+    **{(7, 2): "refused 2", (7, 6): "refused 2", (7, 3): "taken", (7, 5): "taken"},
+}
+WRONG_LENGTHS = (15, 17)
+COLUMNS = {2: "refused 4 at 0", 1: "records 1"}  # of a correction
 
 
 def ones(cells):
@@ -31,57 +41,59 @@ def ones(cells):
     return [int((i, j) in cells) for i in range(P - 1) for j in range(P - 1)]
 
 
-def print_written(n):
-    """A tile that is written, read and repaired."""
-    text, tile, common = WRITTEN[n]
-    answer, written = write(P, L, parsed(text), [7] * 16)
-    assert answer == "done" and shown(written, P - 1) == tile
-    assert set(sums(P, 1, written) + sums(P, L, written)) == {common}
-    print(f"tile {n} write {answer}: {shown(written, P - 1)}")
-    answer, back = read(P, L, written, [7] * 8)
-    assert answer == "done" and shown(back, P - 3) == text
-    print(f"tile {n} read {answer}: {shown(back, P - 3)}")
-    answer, repaired = repair(P, L, written)
-    assert answer == "clean" and repaired == written
-    print(f"tile {n} repair {answer}: {shown(repaired, P - 1)}")
+def hold_written(says):
+    """Tiles 1 to 3 are written over other bytes, read, and repaired, which leaves them."""
+    for text, tile, common in WRITTEN.values():
+        text, tile = parsed(text), parsed(tile)
+        says("write", P, L, [OTHER] * 16, text, "done", tile)
+        for slope in (1, L):
+            says("sums", P, slope, tile, [], "sums:" + f" {common:02x}" * P, tile)
+        says("read", P, L, [OTHER] * 8, tile, "done", text)
+        says("mend", P, L, tile, [], "clean", tile)
 
 
-def print_repaired(n):
-    """A tile that is repaired, or not."""
-    before, said, after = REPAIRED[n]
-    answer, repaired = repair(P, L, ones(before))
-    assert answer == said and repaired == ones(after)
-    print(f"tile {n} repair {answer}: {shown(repaired, P - 1)}")
+def hold_repaired(says):
+    """Tiles 4 to 8."""
+    for before, answer, behind in REPAIRED.values():
+        says("mend", P, L, ones(before), [], answer, ones(behind))
 
 
-def print_filled(n, lost):
-    """A tile that is filled, or not, with `lost` in the flagged cells."""
-    one, filled = FILLED[n]
-    tile = [lost if i == 0 or j == 0 else int((i, j) == one) for i in range(P - 1) for j in range(P - 1)]
-    answer, after = fill(P, L, tile, ("row", 0), ("column", 0))
-    assert (answer, after) == (("refused 5", tile) if filled is None else ("done", parsed(filled)))
-    print(f"tile {n} fill {answer}: {shown(after, P - 1)}")
+def hold_filled(says):
+    """Tiles 9 and 10, with different bytes in the lost cells."""
+    lines = ("row", 0), ("column", 0)
+    for one, filled in FILLED.values():
+        for lost in LOST:
+            tile = [lost if i == 0 or j == 0 else int((i, j) == one) for i in range(P - 1) for j in range(P - 1)]
+            if filled:
+                says("fill", P, L, tile, [], "done", parsed(filled), lines)
+            else:
+                says("fill", P, L, tile, [], "refused 5", tile, lines)
 
 
-def print_corrected(n):
-    """The tile of 4 is corrected and then repaired. Tile 1 comes out, but for 1 added at (2, 3) before the repair."""
-    tile_1 = parsed(WRITTEN[1][1])
-    hurt = ones([(2, 3)])
-    answer, corrected = correct(P, L, hurt, record(0, 0, 0, 1))
-    assert answer == "records 1" and corrected == [a ^ b for a, b in zip(tile_1, hurt)]
-    print(f"tile {n} correct {answer}: {shown(corrected, P - 1)}")
-    answer, repaired = repair(P, L, corrected)
-    assert answer == "column 3" and repaired == tile_1
-    print(f"tile {n} repair {answer}: {shown(repaired, P - 1)}")
+def hold_corrected(says):
+    """Tile 11: tile 4 is corrected, which gives tile 1 but for 1 added at (2, 3), and then repaired."""
+    tile, hurt = parsed(WRITTEN[1][1]), ones([(2, 3)])
+    corrected = [a ^ b for a, b in zip(tile, hurt, strict=True)]
+    says("correct", P, L, hurt, record(0, 0, 0, 1), "records 1", corrected)
+    says("mend", P, L, corrected, [], "column 3", tile)
 
 
-def print_cases():
-    """All lines of this part."""
-    for n in WRITTEN:
-        print_written(n)
-    for n in REPAIRED:
-        print_repaired(n)
-    for n in FILLED:
-        for lost in (0, 200):
-            print_filled(n, lost)
-    print_corrected(11)
+def hold_edges(says):
+    """Tile 12."""
+    for (p, l), answer in JUDGED.items():
+        says("judge", p, l, [], [], answer, [])
+    for length in WRONG_LENGTHS:
+        tile = [0] * length
+        says("write", P, L, tile, parsed(WRITTEN[1][0]), "refused 3", tile)
+        says("read", P, L, [OTHER] * 8, tile, "refused 3", [OTHER] * 8)
+        says("mend", P, L, tile, [], "refused 3", tile)
+        says("fill", P, L, tile, [], "refused 3", tile, (("row", 0), ("column", 0)))
+        says("correct", P, L, tile, record(0, 1, 0, 1), "refused 3 at 0", tile)
+    for column, answer in COLUMNS.items():
+        says("correct", P, L, ones([]), record(0, column, 0, 1), answer)
+
+
+def hold(says):
+    """All of them."""
+    for part in (hold_written, hold_repaired, hold_filled, hold_corrected, hold_edges):
+        part(says)

@@ -4,9 +4,11 @@ use mathlib.Core.Path.{_≡_, sym, subst}
 use mathlib.Core.List.{List}
 use Prim.Native.Nat.{ℕ, _/_, _%_}
 use native.Mathlib.Omega.{arith}
-use Rattle.counterfrost.specs.Word.{Answer, answer, word, sizeAnswer, tileAnswer, sheetAnswer, reelAnswer}
+use Rattle.word.specs.Word.{Answer, answer, word, sizeAnswer, tileAnswer}
+use Rattle.counterfrost.specs.Numbers.{sheetAnswer, reelAnswer}
 use Rattle.counterfrost.specs.Calls.{Worded, HouseWorded, WriteWorded, ReadWorded, RepairWorded, FillWorded, CorrectWorded, NextWorded}
-use Rattle.counterfrost.specs.Fits.{Fits, house-fits, write-fits, read-fits, repair-fits, fill-fits, correct-fits, next-fits}
+use Rattle.word.specs.Fits.{Fits}
+use Rattle.counterfrost.specs.Fits.{house-fits, write-fits, read-fits, repair-fits, fill-fits, correct-fits, next-fits}
 
 -- `cf_kind`, `cf_first` and `cf_second`: the word shifted by 32 bits, its next 16 bits, its last 16
 abbrev pub kindOf : ℕ → ℕ

@@ -4,10 +4,11 @@ use mathlib.Core.Path.{_≡_}
 use mathlib.Core.List.{List}
 use Prim.Native.Nat.{ℕ}
 use Rattle.size.specs.Answer.{HouseTold}
-use Rattle.tile.specs.Calls.{WriteTold, ReadTold, RepairTold, FillTold}
+use Rattle.promise.specs.Calls.{WriteTold, ReadTold, RepairTold, FillTold}
 use Rattle.sheet.specs.Calls.{CorrectTold}
 use Rattle.reel.specs.Calls.{NextTold}
-use Rattle.counterfrost.specs.Word.{Answer, word, sizeAnswer, tileAnswer, sheetAnswer, countOrOffset, reelAnswer, tileNumber, tileSize, tileSlope, offset, lineOf}
+use Rattle.word.specs.Word.{Answer, word, sizeAnswer, tileAnswer, lineOf}
+use Rattle.counterfrost.specs.Numbers.{sheetAnswer, countOrOffset, reelAnswer, tileNumber, tileSize, tileSlope, offset}
 
 -- the word w is the answer to something that is rightly said
 pub record Worded {Said : Type 0} (answerOf : Said → Answer) (Right : Said → Type 0) (w : ℕ) : Type 0 where

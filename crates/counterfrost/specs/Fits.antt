@@ -3,32 +3,17 @@ use mathlib.Core.List.{List}
 use Prim.Native.Nat.{ℕ, _<_}
 use native.Mathlib.Omega.{arith}
 use Rattle.code.specs.declared.Line.{Line}
-use Rattle.size.specs.Refusal.{numberOf}
-use Rattle.size.specs.declared.Refusal.{Refusal}
-use Rattle.size.specs.declared.Refusal.the-variants.{BadSize, BadSlope, BadLength, BadPlace, Damaged, BadMark, CutShort}
 use Rattle.size.specs.Answer as size
-use Rattle.tile.specs.Answer as tile
-use Rattle.tile.specs.Calls.{Admitted, judged, no-length, WriteTold, ReadTold, RepairTold, FillTold}
-use Rattle.tile.specs.Promise.{column-within, row-within}
+use Rattle.promise.specs.Answer as tile
+use Rattle.promise.specs.Calls.{Admitted, judged, no-length, WriteTold, ReadTold, RepairTold, FillTold}
+use Rattle.promise.specs.Promise.{column-within, row-within}
 use Rattle.sheet.specs.Answer as sheet
 use Rattle.sheet.specs.Calls as sheet-calls
 use Rattle.reel.specs.Answer as reel
 use Rattle.reel.specs.Calls as reel-calls
-use Rattle.counterfrost.specs.Word.{Answer, answer, refusal, sizeAnswer, tileAnswer, sheetAnswer, reelAnswer}
-
--- an answer's numbers are below 2¹⁶
-abbrev pub Fits : Answer → Type 0
-Fits (answer kind first second) = (first < 0x10000) × (second < 0x10000)
-
--- there are seven numbers for no
-pub number-fits : (r : Refusal) → numberOf r < 0x10000
-number-fits BadSize = omega arith
-number-fits BadSlope = omega arith
-number-fits BadLength = omega arith
-number-fits BadPlace = omega arith
-number-fits Damaged = omega arith
-number-fits BadMark = omega arith
-number-fits CutShort = omega arith
+use Rattle.word.specs.Word.{refusal, sizeAnswer, tileAnswer}
+use Rattle.word.specs.Fits.{Fits}
+use Rattle.counterfrost.specs.Numbers.{sheetAnswer, reelAnswer}
 
 -- a house slope is below its size
 pub house-fits : {p : ℕ} {said : size.Said} → size.HouseTold p said → Fits (sizeAnswer said)

@@ -1,7 +1,6 @@
--- The face for C: what a reader must believe (`Word`, `Calls`), and what follows from it.
-pub mod Word
+-- The face for C: what a reader must believe (`Numbers`, `Calls`), and what follows from it.
+pub mod Numbers
 pub mod Calls
-pub mod Lines
 pub mod Fits
 pub mod Apart
 pub mod Once

@@ -3,10 +3,11 @@ use mathlib.Core.Path.{_≡_, sym, ap, _∙_}
 use mathlib.Core.List.{List}
 use Prim.Native.Nat.{ℕ}
 use Rattle.size.specs.Once.{house-told-once}
-use Rattle.tile.specs.Once.{write-told-once, read-told-once, repair-told-once, fill-told-once}
+use Rattle.promise.specs.Once.{write-told-once, read-told-once, repair-told-once, fill-told-once}
 use Rattle.sheet.specs.Once.{correct-told-once}
 use Rattle.reel.specs.Once.{next-told-once}
-use Rattle.counterfrost.specs.Word.{Answer, word, countOrOffset, tileNumber, tileSize, tileSlope, offset, lineOf}
+use Rattle.word.specs.Word.{Answer, word, lineOf}
+use Rattle.counterfrost.specs.Numbers.{countOrOffset, tileNumber, tileSize, tileSlope, offset}
 use Rattle.counterfrost.specs.Calls.{Worded, HouseWorded, WriteWorded, ReadWorded, RepairWorded, FillWorded, CorrectWorded, NextWorded}
 
 -- where one thing is said, it has one word

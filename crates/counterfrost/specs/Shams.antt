@@ -8,13 +8,13 @@ use Rattle.code.specs.Tile.{textLength, textOf, Good}
 use Rattle.code.specs.declared.Line.the-variants.{Row}
 use Rattle.size.specs.Answer as size
 use Rattle.size.specs.Shams.{size-5, at-5-2}
-use Rattle.tile.specs.Answer as tile
-use Rattle.tile.specs.Admit.{admits}
-use Rattle.tile.specs.Calls as tile-calls
-use Rattle.tile.specs.Calls.{WriteTold, Explains, RepairTold}
-use Rattle.tile.specs.Explain.{explains-fills}
-use Rattle.tile.specs.Worked as tile-case
-use Rattle.tile.specs.Worked.{zeros, text-1, tile-1, tile-4, tile-6, tile-9, filled-9, copied-1}
+use Rattle.promise.specs.Answer as tile
+use Rattle.promise.specs.Admit.{admits}
+use Rattle.promise.specs.Calls as tile-calls
+use Rattle.promise.specs.Calls.{WriteTold, Explains, RepairTold}
+use Rattle.promise.specs.Explain.{explains-fills}
+use Rattle.promise.specs.Worked as tile-case
+use Rattle.promise.specs.Worked.{zeros, text-1, tile-1, tile-4, tile-6, tile-9, filled-9, copied-1}
 use Rattle.sheet.specs.Answer as sheet
 use Rattle.sheet.specs.Calls as sheet-calls
 use Rattle.sheet.specs.Worked as sheet-case
@@ -22,7 +22,7 @@ use Rattle.sheet.specs.Worked.{sheet-11, tile-11}
 use Rattle.reel.specs.Answer as reel
 use Rattle.reel.specs.Worked as reel-case
 use Rattle.reel.specs.Worked.{whole-case}
-use Rattle.counterfrost.specs.Word.{answer, word, done, refusal, lineOf}
+use Rattle.word.specs.Word.{answer, word, done, refusal, lineOf}
 use Rattle.counterfrost.specs.Calls.{HouseWorded, WriteWorded, ReadWorded, RepairWorded, FillWorded, CorrectWorded, NextWorded}
 use Rattle.counterfrost.specs.Once.{house-word-once, write-word-once, read-word-once, repair-word-once, fill-word-once, correct-word-once, next-word-once}
 

@@ -1,7 +1,5 @@
 // The face for C and Rust, as include/counterfrost.h declares it. Each call wraps a proved one: it answers by a word, and promises what that
 // one does. None asks anything of its input.
-mod word;
-
 use reel::Found;
 use sheet::Corrected;
 ghost use Rattle.counterfrost.specs.Calls.{HouseWorded, WriteWorded, ReadWorded, RepairWorded, FillWorded, CorrectWorded, NextWorded};

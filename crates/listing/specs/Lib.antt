@@ -1,8 +1,5 @@
--- The listing: what a reader must believe (`Line`, `Listing`), and what follows from it.
-pub mod Line
+-- The listing: what a reader must believe (`Listing`), and what follows from it.
 pub mod Listing
-pub mod Decimal
-pub mod Lay
 pub mod Reached
 pub mod Once
 pub mod Worked

@@ -3,12 +3,12 @@ use mathlib.Core.List.{List}
 use Prim.Native.Nat.{ℕ}
 use lib.ListN.{length, take, drop}
 use Rattle.code.specs.Tile.{tileLength}
-use Rattle.tile.specs.Answer as repair
-use Rattle.tile.specs.Calls.{RepairTold}
+use Rattle.promise.specs.Answer as repair
+use Rattle.promise.specs.Calls.{RepairTold}
 use Rattle.reel.specs.Answer.{Said, tile, end, refused}
 use Rattle.reel.specs.Calls.{NextTold}
 use Rattle.reel.specs.Walk.{WalkByPlace}
-use Rattle.listing.specs.Line.{tileLine, endLine, stoppedLine}
+use Rattle.lettering.specs.Line.{tileLine, endLine, stoppedLine}
 
 -- what repair says of these very bytes; what they would become is not listed
 pub record RepairSays (p l : ℕ) (bytes : List ℕ) (said : repair.Said) : Type 0 where

@@ -5,12 +5,12 @@ use Prim.Native.Nat.{ℕ}
 use native.Mathlib.Omega.{arith}
 use lib.ListN.{length, take, drop}
 use Rattle.code.specs.Tile.{tileLength}
-use Rattle.tile.specs.Answer as repair
-use Rattle.tile.specs.Once.{repair-told-once}
+use Rattle.promise.specs.Answer as repair
+use Rattle.promise.specs.Once.{repair-told-once}
 use Rattle.reel.specs.Answer.{Said, tile}
 use Rattle.reel.specs.Once.{next-told-once}
 use Rattle.reel.specs.Walks.{walk-once}
-use Rattle.listing.specs.Line.{tileLine, endLine, stoppedLine}
+use Rattle.lettering.specs.Line.{tileLine, endLine, stoppedLine}
 use Rattle.listing.specs.Listing.{RepairSays, TileListed, lists, Closes, ends, stops}
 
 -- repair says one thing

@@ -14,7 +14,7 @@ use Rattle.reel.specs.Walk.{WalkByPlace, shifted}
 use Rattle.reel.specs.Walk as walk
 use Rattle.reel.specs.Walks.{moves-on, rest-shorter, rest-on}
 use Rattle.reel.specs.Promise.{tile-stands}
-use Rattle.listing.specs.Line.{endLine, stoppedLine}
+use Rattle.lettering.specs.Line.{endLine, stoppedLine}
 use Rattle.listing.specs.Listing.{Closes}
 
 -- the listing has come so far: `left` is what is left of the reel, and so many tiles stand before it

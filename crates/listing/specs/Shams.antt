@@ -4,9 +4,9 @@ use mathlib.Core.List.{List, _++_, append-cancel-left, append-cancel-right}
 use Prim.Native.Nat.{ℕ}
 use native.Mathlib.Omega.{arith}
 use lib.ListN.{getD, take}
-use Rattle.tile.specs.Answer.{clean, column}
-use Rattle.listing.specs.Line.{ascii, space, lf, decimal, tileLine, endLine, stoppedLine, Holds}
-use Rattle.listing.specs.Decimal.{decimal-once}
+use Rattle.promise.specs.Answer.{clean, column}
+use Rattle.lettering.specs.Line.{ascii, space, lf, decimal, tileLine, endLine, stoppedLine, Holds}
+use Rattle.lettering.specs.Decimal.{decimal-once}
 use Rattle.listing.specs.Worked.{tile-7, tile-8, stopped-7, end-0}
 
 -- a line that holds a text has its signs: the k-th of them

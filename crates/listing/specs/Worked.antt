@@ -7,12 +7,12 @@ use Rattle.xor.specs.Xor.{_⊕_}
 use Rattle.xor.specs.Sum.{xorBelow}
 use Rattle.code.specs.Tile.{place, cell, sum}
 use Rattle.code.specs.Test.{upTo}
-use Rattle.tile.specs.Answer.{clean, column, row, refused}
-use Rattle.tile.specs.Decide.{both, same, good, not-good, outside, filling, none-of}
-use Rattle.tile.specs.Worked.{Claim, repairs, zeros, mends, admitted-tile, tested}
+use Rattle.promise.specs.Answer.{clean, column, row, refused}
+use Rattle.promise.specs.Decide.{both, same, good, not-good, outside, filling, none-of}
+use Rattle.promise.specs.Worked.{Claim, repairs, zeros, mends, admitted-tile, tested}
 use Rattle.reel.specs.Calls.{ends}
 use Rattle.reel.specs.Worked.{whole-case, first, second, walked}
-use Rattle.listing.specs.Line.{ascii, digitsUpTo, decimal, stateText, tileLine, endLine, stoppedLine}
+use Rattle.lettering.specs.Line.{ascii, digitsUpTo, decimal, stateText, tileLine, endLine, stoppedLine}
 use Rattle.listing.specs.Listing.{TileListed, lists, Closes, stops}
 use Rattle.listing.specs.Reached.{reached-first, reached-ends}
 use Rattle.listing.specs.Once.{listed-once, closes-once}

@@ -1,17 +1,16 @@
 // The listing of a reel: a line for each tile, and a closing line. What each line says is settled byte by byte; what is left to the
 // system is to write it.
-mod bytes;
-pub mod line;
-
+use lettering::bytes;
+pub use lettering::line;
 use libc::STDOUT_FILENO;
+use promise::Repaired;
 use reel::Found;
 use reel::Tile;
-use tile::Repaired;
 ghost use Prim.Native.Nat.{_≤_};
 ghost use lib.ListN.{length, take};
 ghost use Rattle.reel.specs.Answer.{foundSaid, NoTile};
 ghost use Rattle.reel.specs.Calls.{NextTold};
-ghost use Rattle.tile.specs.Answer.{repairSaid};
+ghost use Rattle.promise.specs.Answer.{repairSaid};
 ghost use Rattle.listing.specs.Listing.{RepairSays, TileListed, Closes};
 ghost use Rattle.listing.specs.Reached.{Reached};
 
@@ -22,7 +21,7 @@ fn state(p: usize, l: usize, bytes: &[u8], copy: &mut [u8]) -> Repaired
 {
     let n = bytes.len();
     bytes::copy(bytes, copy, 0);
-    tile::repair(p, l, &mut copy[..n])
+    mender::repair(p, l, &mut copy[..n])
 }
 
 // The line of the tile that stands at the start of what is left of a reel.

@@ -10,8 +10,9 @@ use denote.Ref.{RefT, now}
 use Rattle.code.specs.Size.{Size, Allowed}
 use Rattle.code.specs.Tile.{tileLength}
 use Rattle.record.specs.Number.{bigEndian, bigEndianLong}
-use Rattle.size.specs.Answer.{Says, well, Judged}
-use Rattle.size.specs.Told.{says-equal, judged-well}
+use Rattle.code.specs.Says.{Says, says-equal}
+use Rattle.size.specs.Answer.{well, Judged}
+use Rattle.size.specs.Told.{judged-well}
 use Rattle.reel.specs.Reel.{byteOf, Marked, sizeOf, slopeOf, numberOf, bytesAt, HeaderWhole, RecordWhole}
 use Rattle.reel.specs.Answer.{Said, tile, end, refused, NoTile}
 use Rattle.reel.specs.Calls.{NextTold, header-cut, no-mark, refuses, body-cut, stands, afterSaid, HandsBack, RestTold}

@@ -7,7 +7,7 @@ use size::Refusal;
 ghost use mathlib.Core.Path.{_≡_};
 ghost use Rattle.code.specs.Size.{Size};
 ghost use Rattle.code.specs.Tile.{tileLength};
-ghost use Rattle.size.specs.Answer.{Says};
+ghost use Rattle.code.specs.Says.{Says};
 ghost use Rattle.reel.specs.Reel.{HeaderWhole, Marked, sizeOf, slopeOf, numberOf};
 ghost use Rattle.reel.specs.Answer.{foundSaid};
 ghost use Rattle.reel.specs.Calls.{NextTold, BytesTold, AfterTold, RestTold};

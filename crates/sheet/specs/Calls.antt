@@ -5,7 +5,7 @@ use mathlib.Core.List.{List}
 use Prim.Native.Nat.{ℕ, _*_, _<_}
 use Rattle.code.specs.Tile.{Writes, xored}
 use Rattle.size.specs.Answer as size
-use Rattle.tile.specs.Calls.{Admitted, TileLength}
+use Rattle.promise.specs.Calls.{Admitted, TileLength}
 use Rattle.sheet.specs.Answer.{Said, corrected, refused}
 use Rattle.sheet.specs.Sheet.{records, Marked, differences, Whole, Placed, SoundBelow}
 

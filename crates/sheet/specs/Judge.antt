@@ -7,8 +7,7 @@ use lib.Dec.{eqb}
 use lib.ListN.{getD}
 use borrow.Author.Count.{below-more}
 use Rattle.record.specs.Number.{bigEndian}
-use Rattle.size.specs.Answer.{Says}
-use Rattle.size.specs.Told.{says-equal}
+use Rattle.code.specs.Says.{Says, says-equal}
 use Rattle.sheet.specs.Sheet.{records, byteOf, Marked, Placed, SoundBelow}
 use Rattle.sheet.specs.Answer.{corrected}
 use Rattle.sheet.specs.Calls.{Judged, sound}

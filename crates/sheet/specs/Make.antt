@@ -17,10 +17,11 @@ use Rattle.code.specs.Place.{place-lt, tileOf, tile-length, tile-cells, from-le
 use Rattle.code.specs.Xored.{xored-is}
 use Rattle.code.specs.Settle.{settles-good, settles-sums}
 use Rattle.code.specs.declared.Line.the-variants.{Column}
-use Rattle.lines.specs.Held.{held, Sums, ByteAdded, zeros-held}
-use Rattle.lines.specs.Cases.{held-totals}
-use Rattle.lines.specs.Change.{Added, cell-added}
-use Rattle.lines.specs.Settled.{LinesSettled}
+use Rattle.code.specs.Held.{held, zeros-held}
+use Rattle.walk.specs.Sums.{Sums, ByteAdded}
+use Rattle.chain.specs.Cases.{held-totals}
+use Rattle.cells.specs.Change.{Added, cell-added}
+use Rattle.chain.specs.Settled.{LinesSettled}
 use Rattle.sheet.specs.Sheet.{records, rowOf, columnOf, Names, wasOf, isOf, differenceOf, given, differences, Placed, SoundBelow}
 use Rattle.sheet.specs.Calls.{Corrects}
 

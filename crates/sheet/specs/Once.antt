@@ -11,10 +11,10 @@ use Rattle.size.specs.Answer as size
 use Rattle.size.specs.Refusal.{numberOf}
 use Rattle.size.specs.Once.{number-once}
 use Rattle.size.specs.declared.Refusal.{Refusal}
-use Rattle.tile.specs.Admit.{admitted-well, admitted-no, admitted-once}
-use Rattle.tile.specs.Calls.{TileLength}
-use Rattle.tile.specs.Finish.{slope-of}
-use Rattle.tile.specs.Once.{Single}
+use Rattle.promise.specs.Admit.{admitted-well, admitted-no, admitted-once}
+use Rattle.promise.specs.Calls.{TileLength}
+use Rattle.promise.specs.Admit.{slope-of}
+use Rattle.promise.specs.Once.{Single}
 use Rattle.sheet.specs.Sheet.{Marked, Placed, SoundBelow}
 use Rattle.sheet.specs.Answer.{Said, refused, correctedSaid}
 use Rattle.sheet.specs.Calls.{Judged, cut, no-mark, no-place, sound, Corrects, CorrectTold}

@@ -15,11 +15,11 @@ use Rattle.code.specs.Xored.{xored-length, xored-letter, xored-cell, xored-is, 
 use Rattle.code.specs.Distance.{Blank, lines-blank, within-off}
 use Rattle.code.specs.declared.Line.{Line}
 use Rattle.code.specs.declared.Line.the-variants.{Column}
-use Rattle.tile.specs.Answer as answer
-use Rattle.tile.specs.Calls.{WriteTold, ReadTold, RepairTold, FillTold}
-use Rattle.tile.specs.Admit.{admits, admitted-well, admitted-no}
-use Rattle.tile.specs.Once.{write-told-once, read-told-once, repair-told-once, fill-told-once}
-use Rattle.tile.specs.Carry.{repair-carried, fill-carried, repaired-good}
+use Rattle.promise.specs.Answer as answer
+use Rattle.promise.specs.Calls.{WriteTold, ReadTold, RepairTold, FillTold}
+use Rattle.promise.specs.Admit.{admits, admitted-well, admitted-no}
+use Rattle.promise.specs.Once.{write-told-once, read-told-once, repair-told-once, fill-told-once}
+use Rattle.promise.specs.Carry.{repair-carried, fill-carried, repaired-good}
 use Rattle.sheet.specs.Sheet.{records, isOf, given, differences, Whole, Placed, SoundBelow}
 use Rattle.sheet.specs.Answer.{Said, corrected, refused}
 use Rattle.sheet.specs.Calls.{sound, Corrects, CorrectTold}

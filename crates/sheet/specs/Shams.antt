@@ -4,8 +4,8 @@ use mathlib.Core.List.{List}
 use Prim.Native.Nat.{ℕ}
 use native.Mathlib.Omega.{arith}
 use lib.ListN.{getD}
-use Rattle.tile.specs.Worked.{zeros, tile-1, tile-4, copied-1}
-use Rattle.tile.specs.Shams.{wrong-answer, wrong-bytes}
+use Rattle.promise.specs.Worked.{zeros, tile-1, tile-4, copied-1}
+use Rattle.promise.specs.Shams.{wrong-answer, wrong-bytes}
 use Rattle.sheet.specs.Sheet.{records}
 use Rattle.sheet.specs.Answer.{Said, corrected, refused}
 use Rattle.sheet.specs.Calls.{sound, CorrectTold}

@@ -10,12 +10,12 @@ use Rattle.code.specs.Tabulate.{tabulate}
 use Rattle.code.specs.Tile.{tileLength, place, cell, sum, textFrom, textOf, Writes, xored}
 use Rattle.code.specs.Test.{upTo}
 use Rattle.size.specs.Shams.{size-5, at-5-2}
-use Rattle.tile.specs.Answer as answer
-use Rattle.tile.specs.Calls.{RepairTold}
-use Rattle.tile.specs.Admit.{admits}
-use Rattle.tile.specs.Decide.{Test, so, both, below, equal, at-most, same, good, not-good, outside, filling, none-of, none, no-line, uncrossed, no-filling, Each, each, numbered}
-use Rattle.tile.specs.Worked as worked
-use Rattle.tile.specs.Worked.{Exactly, exactly, zeros, text-1, tile-1, tile-4, writing, tested, mends, filled, admitted-tile}
+use Rattle.promise.specs.Answer as answer
+use Rattle.promise.specs.Calls.{RepairTold}
+use Rattle.promise.specs.Admit.{admits}
+use Rattle.promise.specs.Decide.{Test, so, both, below, equal, at-most, same, good, not-good, outside, filling, none-of, none, no-line, uncrossed, no-filling, Each, each, numbered}
+use Rattle.promise.specs.Worked as worked
+use Rattle.promise.specs.Worked.{Exactly, exactly, zeros, text-1, tile-1, tile-4, writing, tested, mends, filled, admitted-tile}
 use Rattle.sheet.specs.Sheet.{records, byteOf, Marked, rowOf, columnOf, given, differences, Placed, SoundBelow}
 use Rattle.sheet.specs.Answer.{corrected}
 use Rattle.sheet.specs.Calls.{sound, CorrectTold}

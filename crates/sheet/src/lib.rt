@@ -1,17 +1,17 @@
 // The correction sheet: records that each name a place in a tile's text, the byte that was there and the byte that is to be. The
 // tile need not be sound: what is made is the change that the sheet asks for, the same in every tile.
-use lines::checks;
-use lines::index::place;
-use lines::sums::add_byte;
+use chain::checks;
+use promise::judge_tile;
 use size::Judgement;
 use size::Refusal;
-use tile::judge_tile;
+use walk::index::place;
+use walk::sums::add_byte;
 ghost use mathlib.Core.Path.{_≡_};
 ghost use Prim.Native.Nat.{_+_, _≤_, _<_};
 ghost use lib.ListN.{length};
 ghost use Rattle.code.specs.Slope.{Slope};
 ghost use Rattle.code.specs.Tile.{tileLength};
-ghost use Rattle.size.specs.Answer.{Says};
+ghost use Rattle.code.specs.Says.{Says};
 ghost use Rattle.sheet.specs.Sheet.{records, Marked, Names, wasOf, isOf, SoundBelow};
 ghost use Rattle.sheet.specs.Calls.{Judged, Corrects, CorrectTold};
 ghost use Rattle.sheet.specs.Answer.{correctedSaid};

@@ -1,22 +1,12 @@
 -- WHAT A READER MUST BELIEVE: what the size and slope calls promise, in the words of document 01. Assumes nothing.
-use mathlib.Core.Bool.{Bool, true, false}
-use Prim.Native.Nat.{ℕ, _<_}
+use Prim.Native.Nat.{ℕ}
 use Rattle.code.specs.Size.{Size, Allowed}
+use Rattle.house.specs.House.{HouseSlope}
 use Rattle.size.specs.Refusal.{numberOf}
 use Rattle.size.specs.declared.House.{House}
 use Rattle.size.specs.declared.House.the-variants.{Slope, Refused}
 use Rattle.size.specs.declared.Judgement.{Judgement}
 use Rattle.size.specs.declared.Judgement.the-variants as judgement
-
--- a bool says whether A holds: it is true exactly if A does
-abbrev pub Says : Bool → Type 0 → Type 0
-Says true A = A
-Says false A = A → ⊥
-
--- "The house slope for each size is the smallest slope allowed."
-pub record HouseSlope (p l : ℕ) : Type 0 where
-  pub allowed : Allowed p l
-  pub least : (j : ℕ) → j < l → Allowed p j → ⊥
 
 -- an answer in the document's terms: a slope, that all is well, or the number of a refusal
 pub data Said : Type 0 where

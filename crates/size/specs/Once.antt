@@ -7,7 +7,8 @@ use native.Mathlib.Nat.{le-antisymm}
 use native.Mathlib.Omega.{by-contra}
 use lib.ListN.{getD}
 use Rattle.size.specs.Refusal.{numberOf}
-use Rattle.size.specs.Answer.{Says, HouseSlope, Said, slope, houseSaid, judgementSaid, HouseTold, given, no-size, Judged, taken, no-slope}
+use Rattle.house.specs.House.{HouseSlope}
+use Rattle.size.specs.Answer.{Said, slope, houseSaid, judgementSaid, HouseTold, given, no-size, Judged, taken, no-slope}
 use Rattle.size.specs.declared.Refusal.{Refusal}
 use Rattle.size.specs.declared.Refusal.the-variants.{BadSize, BadSlope, BadLength, BadPlace, Damaged, BadMark, CutShort}
 use Rattle.size.specs.declared.House.{House}
@@ -32,13 +33,6 @@ back CutShort = refl
 -- no two refusals have the same number
 pub number-once : (a b : Refusal) → numberOf a ≡ numberOf b → a ≡ b
 number-once a b e = sym (back a) ∙ ap refusalOf e ∙ back b
-
--- only one bool says whether A holds
-pub says-once : (A : Type 0) (a b : Bool) → Says a A → Says b A → a ≡ b
-says-once A true true s t = refl
-says-once A true false s t = absurd (t s)
-says-once A false true s t = absurd (s t)
-says-once A false false s t = refl
 
 -- a size has one house slope
 slope-once : {p l m : ℕ} → HouseSlope p l → HouseSlope p m → l ≡ m

@@ -5,12 +5,13 @@ use Prim.Native.Nat.{ℕ}
 use native.Mathlib.Omega.{arith}
 use Rattle.code.specs.Size.{Size, Allowed}
 use Rattle.code.specs.Test.{upTo}
-use Rattle.size.specs.Answer.{Says, slope, well, refused, HouseTold, given, Judged, no-slope}
+use Rattle.code.specs.Says.{Says}
+use Rattle.size.specs.Answer.{slope, well, refused, HouseTold, given, Judged, no-slope}
 use Rattle.size.specs.Refusal.{numberOf}
 use Rattle.size.specs.declared.Refusal.the-variants.{BadMark, CutShort}
 use Rattle.size.specs.Told.{given-size, refused-size, judged-well, judged-no}
-use Rattle.size.specs.SizeTest.{sizeOk, size-sound, size-complete}
-use Rattle.size.specs.SlopeTest.{clear, slopeOk, slope-sound, slope-complete}
+use Rattle.house.specs.SizeTest.{sizeOk, size-sound, size-complete}
+use Rattle.house.specs.SlopeTest.{clear, slopeOk, slope-sound, slope-complete}
 
 -- what the tests decide: which are sizes ..
 pub size-5 : Size 5

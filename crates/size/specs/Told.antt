@@ -1,26 +1,7 @@
 -- What an answer tells of the size and the slope that were asked about. Assumes nothing.
-use mathlib.Core.Path.{_≡_, refl, subst}
-use mathlib.Core.Bool.{Bool, true, false}
 use Prim.Native.Nat.{ℕ}
-use lib.Dec.{eqb}
-use borrow.Author.Tests.{eqb-true, eqb-false}
 use Rattle.code.specs.Size.{Size, Allowed}
-use Rattle.size.specs.Answer.{Says, slope, well, refused, HouseTold, given, no-size, Judged, taken, no-slope}
-
--- a bool that says whether A holds: where it is true A does, and where it is false A does not
-pub says-true : {b : Bool} {A : Type 0} → Says b A → b ≡ true → A
-says-true {b} {A} s e = subst (λ (x : Bool). Says x A) e s
-
-pub says-false : {b : Bool} {A : Type 0} → Says b A → b ≡ false → A → ⊥
-says-false {b} {A} s e = subst (λ (x : Bool). Says x A) e s
-
--- a comparison of two numbers says whether A holds, where they are equal exactly if it does
-pub says-equal : (m n : ℕ) {A : Type 0} → (m ≡ n → A) → (A → m ≡ n) → Says (eqb m n) A
-says-equal m n {A} to back = go (eqb m n) refl
-  where
-    go : (b : Bool) → eqb m n ≡ b → Says b A
-    go true e = to (eqb-true m n e)
-    go false e = λ a. eqb-false m n e (back a)
+use Rattle.size.specs.Answer.{slope, well, refused, HouseTold, given, no-size, Judged, taken, no-slope}
 
 -- what is given a house slope is a size, and what is refused one is none
 pub given-size : {p l : ℕ} → HouseTold p (slope l) → Size p

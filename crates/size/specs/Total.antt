@@ -5,8 +5,8 @@ use mathlib.Core.Path.{_≡_, refl, sym, subst}
 use lib.Dec.{T}
 use Rattle.code.specs.Size.{Size}
 use Rattle.size.specs.Answer.{Said, well, refused, Judged, taken, no-size, no-slope}
-use Rattle.size.specs.SizeTest.{sizeOk, size-sound, size-complete}
-use Rattle.size.specs.SlopeTest.{slopeOk, slope-sound, slope-complete}
+use Rattle.house.specs.SizeTest.{sizeOk, size-sound, size-complete}
+use Rattle.house.specs.SlopeTest.{slopeOk, slope-sound, slope-complete}
 
 -- what is said of a size, by the test of the slope
 judged-size : (p l : ℕ) → Size p → (b : Bool) → slopeOk p l ≡ b → (said : Said) × Judged p l said

@@ -2,7 +2,8 @@
 // slope judges them here.
 ghost use mathlib.Core.Path.{_≡_};
 ghost use Rattle.code.specs.Size.{Size, Allowed};
-ghost use Rattle.size.specs.Answer.{Says, HouseTold, houseSaid, Judged, judgementSaid};
+ghost use Rattle.code.specs.Says.{Says};
+ghost use Rattle.size.specs.Answer.{HouseTold, houseSaid, Judged, judgementSaid};
 ghost use Rattle.size.specs.Refusal.{numberOf};
 
 // Why a call says no.
@@ -31,66 +32,6 @@ pub fn number(refusal: Refusal) -> usize
     }
 }
 
-// A size and its house slope.
-struct Entry(usize, usize);
-
-// Every size, with its house slope: the smallest slope that it allows.
-const HOUSE_SLOPES: [Entry; 53] = [
-    Entry(5, 2),
-    Entry(7, 3),
-    Entry(11, 2),
-    Entry(13, 2),
-    Entry(17, 3),
-    Entry(19, 2),
-    Entry(23, 5),
-    Entry(29, 2),
-    Entry(31, 3),
-    Entry(37, 2),
-    Entry(41, 6),
-    Entry(43, 3),
-    Entry(47, 5),
-    Entry(53, 2),
-    Entry(59, 2),
-    Entry(61, 2),
-    Entry(67, 2),
-    Entry(71, 7),
-    Entry(73, 5),
-    Entry(79, 3),
-    Entry(83, 2),
-    Entry(89, 3),
-    Entry(97, 5),
-    Entry(101, 2),
-    Entry(103, 5),
-    Entry(107, 2),
-    Entry(109, 6),
-    Entry(113, 3),
-    Entry(127, 3),
-    Entry(131, 2),
-    Entry(137, 3),
-    Entry(139, 2),
-    Entry(149, 2),
-    Entry(151, 6),
-    Entry(157, 5),
-    Entry(163, 2),
-    Entry(167, 5),
-    Entry(173, 2),
-    Entry(179, 2),
-    Entry(181, 2),
-    Entry(191, 19),
-    Entry(193, 5),
-    Entry(197, 2),
-    Entry(199, 3),
-    Entry(211, 2),
-    Entry(223, 3),
-    Entry(227, 2),
-    Entry(229, 6),
-    Entry(233, 3),
-    Entry(239, 7),
-    Entry(241, 7),
-    Entry(251, 6),
-    Entry(257, 3),
-];
-
 // What the house slope of a size is asked for gives.
 pub enum House {
     Slope(usize),
@@ -101,10 +42,10 @@ pub enum House {
 pub fn house_slope(p: usize) -> House
     ensures { λ r. ⌜ HouseTold p (houseSaid r) ⌝ }
 {
-    let table = HOUSE_SLOPES;
+    let entries = house::table();
     let mut i = 0;
     while i < 53 {
-        let entry = table[i];
+        let entry = entries[i];
         if entry.0 == p {
             return House::Slope(entry.1);
         }

@@ -3,11 +3,10 @@
 from functools import cache
 from typing import NamedTuple
 
-from expected.hurt import changed
-from expected.lost import written_from
 from expected.reel import HEADER, record
+from expected.sample import change_of, numbers, sample
 from expected.sizes import HOUSE
-from expected.tile import tile_length
+from expected.tile import places, text_length, tile_length, write
 
 
 class Case(NamedTuple):
@@ -33,13 +32,18 @@ DAMAGE = {
 @cache
 def good(p, l, seed=1):
     """A tile written from pseudo-random text."""
-    return bytes(written_from(p, l, seed)[0])
+    answer, tile = write(p, l, sample(seed, text_length(p)), [0] * tile_length(p))
+    assert answer == "done"
+    return bytes(tile)
 
 
 def hurt(tile, p, *lines):
     """The tile with every byte of the lines changed."""
+    tile = list(tile)
     for seed, line in enumerate(lines, start=1):
-        tile = changed(p, tile, line, seed)
+        drawn = numbers(seed)
+        for k in places(p, line):
+            tile[k] ^= change_of(next(drawn))
     return bytes(tile)
 
 

@@ -1,6 +1,6 @@
 -- `counterfrost::cf_fill` meets its contract. Assumes nothing.
 use borrow.Author.Needs.{needs}
-use Rattle.tile.specs.Answer.{outcomeSaid}
+use Rattle.promise.specs.Answer.{outcomeSaid}
 use Rattle.counterfrost.proofs.cf_fill.Statement.{statement}
 use Rattle.counterfrost.proofs.cf_fill.Tie as tie
 

@@ -1,7 +1,7 @@
 -- `listing::state` meets its contract: what is repaired is a copy of the bytes. Assumes nothing.
 use mathlib.Core.Path.{sym}
 use lib.Seq.{length-take-le}
-use Rattle.listing.specs.Lay.{copied}
+use Rattle.lettering.specs.Lay.{copied}
 use borrow.Author.Needs.{needs}
 use Rattle.listing.proofs.state.Statement.{statement}
 use Rattle.listing.proofs.state.Tie as tie

@@ -2,7 +2,8 @@
 use Rattle.reel.specs.Told.{cut-told, stands-told}
 use native.Mathlib.Omega.{arith}
 use borrow.Author.Tests.{not-true, not-false}
-use Rattle.size.specs.Told.{says-true, says-false, judged-well}
+use Rattle.code.specs.Says.{says-true, says-false}
+use Rattle.size.specs.Told.{judged-well}
 use Rattle.reel.specs.Calls.{ends, header-cut, no-mark, refuses}
 use borrow.Author.Needs.{needs}
 use Rattle.reel.proofs.next.Statement.{statement}

@@ -1,7 +1,6 @@
 -- `sheet::correct` meets its contract. Assumes nothing.
 use borrow.Author.Needs.{needs}
-use Rattle.tile.specs.Admit.{admitted-well}
-use Rattle.tile.specs.Finish.{slope-of}
+use Rattle.promise.specs.Admit.{admitted-well, slope-of}
 use Rattle.sheet.specs.Calls.{refuses, faulty, corrects}
 use Rattle.sheet.specs.Judge.{judged-sound}
 use Rattle.sheet.proofs.correct.Statement.{statement}

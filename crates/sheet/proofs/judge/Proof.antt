@@ -3,7 +3,7 @@ use mathlib.Core.Path.{_≡_}
 use Prim.Native.Nat.{_-_, _≤_}
 use native.Mathlib.Omega.{arith}
 use borrow.Author.Tests.{not-true, not-false}
-use Rattle.size.specs.Told.{says-true, says-false}
+use Rattle.code.specs.Says.{says-true, says-false}
 use Rattle.sheet.specs.Sheet.{records, Whole, SoundBelow}
 use Rattle.sheet.specs.Calls.{cut, no-mark, no-place, sound}
 use Rattle.sheet.specs.Judge.{sound-none, sound-more}

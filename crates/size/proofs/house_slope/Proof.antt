@@ -1,27 +1,25 @@
--- `size::house_slope` meets its contract. The loop's invariant: the code's own table passes the test of the rule, which antt computes
--- where the loop begins, and none of the entries passed has the size p. Assumes nothing.
+-- `size::house_slope` meets its contract. The loop's invariant: none of the entries passed has the size p. Assumes nothing.
 use mathlib.Core.Path.{_≡_}
 use Prim.Native.Nat.{ℕ, _≤_, _<_, _-_}
 use native.Mathlib.Omega.{arith}
-use lib.Dec.{T}
 use borrow.Author.Count.{below-more}
-use Rattle.code.specs.Test.{upTo}
+use borrow.Author.Needs.{needs}
 use Rattle.size.specs.Answer.{given, no-size}
-use Rattle.size.specs.SizeTest.{sizeOk}
-use Rattle.size.specs.SlopeTest.{slopeOk, clear}
-use Rattle.size.specs.Table.{entryAt, tableOk, table-sound}
+use Rattle.house.specs.House.{entryAt, HouseTable}
 use Rattle.size.proofs.house_slope.Statement.{statement}
 use Rattle.size.proofs.house_slope.Tie as tie
 
 abbrev Inv-loop : tie.InvT-loop
-Inv-loop p table i₀ i = T (tableOk table) × (i ≤ 53) × ((k : ℕ) → k < i → entryAt table k .0 ≡ p → ⊥)
+Inv-loop p entries i₀ i = HouseTable entries × (i ≤ 53) × ((k : ℕ) → k < i → entryAt entries k .0 ≡ p → ⊥)
 
 abbrev μ-loop : tie.MeasureT-loop
-μ-loop p table i₀ i = 53 - i
+μ-loop p entries i₀ i = 53 - i
+
+table-requires : tie.Need-table-requires Inv-loop μ-loop
+table-requires c κs = search needs
 
 loop-holds : tie.Need-loop-holds Inv-loop μ-loop
-unfolding tableOk sizeOk slopeOk clear upTo
-loop-holds c = (tt, omega arith, λ k h e. omega arith)
+loop-holds c = (c .table .ensures, omega arith, λ k h e. omega arith)
 
 mul-entry : tie.Need-mul-entry Inv-loop μ-loop
 mul-entry c = omega arith
@@ -32,7 +30,7 @@ array-copy-out-entry c = omega arith
 returns : tie.Need-returns Inv-loop μ-loop
 returns c =
     let at = c .before .before .before .before .loop in
-    let entry = table-sound _ (at .inv .0) .each (at .i) (omega arith) in
+    let entry = at .inv .0 .each (at .i) (omega arith) in
     rw (c .if1 .taken) at (given (entry .0) (entry .1))
 
 add-i : tie.Need-add-i Inv-loop μ-loop
@@ -49,7 +47,7 @@ loop-again c =
 returns-2 : tie.Need-returns-2 Inv-loop μ-loop
 returns-2 c =
     let inv = c .before .loop .inv in
-    no-size (table-sound _ (inv .0) .every _ (λ k h. inv .2 k (omega arith)))
+    no-size (inv .0 .every _ (λ k h. inv .2 k (omega arith)))
 
 pub house-slope-spec : {M : Type 1} → statement M
-house-slope-spec = tie.close (tie.spec Inv-loop μ-loop loop-holds mul-entry array-copy-out-entry returns add-i loop-less loop-again returns-2)
+house-slope-spec = tie.close (tie.spec Inv-loop μ-loop table-requires loop-holds mul-entry array-copy-out-entry returns add-i loop-less loop-again returns-2)

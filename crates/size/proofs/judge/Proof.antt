@@ -1,7 +1,8 @@
 -- `size::judge` meets its contract: the table tells a size and its house slope, and the powers tell any other slope. Assumes nothing.
 use borrow.Author.Needs.{needs}
 use Rattle.size.specs.Answer.{taken, no-slope}
-use Rattle.size.specs.Told.{says-true, says-false, given-size, house-taken, house-refused}
+use Rattle.code.specs.Says.{says-true, says-false}
+use Rattle.size.specs.Told.{given-size, house-taken, house-refused}
 use Rattle.size.proofs.judge.Statement.{statement}
 use Rattle.size.proofs.judge.Tie as tie
 

@@ -1,0 +1,105 @@
+-- Whether one or two flagged lines have a change that settles the sums, case by case: one column, two columns, a column with a row, and rows
+-- as columns of the turned tile. Assumes nothing.
+use mathlib.Core.Path.{_≡_, refl, sym, ap, _∙_}
+use mathlib.Core.Logic.{_≢_}
+use mathlib.Core.Bool.{Bool, true, false}
+use mathlib.Core.List.{List}
+use Prim.Native.Nat.{ℕ, _-_, _*_, _%_, _<_}
+use native.Mathlib.Omega.{arith}
+use lib.Dec.{eqb}
+use Rattle.xor.specs.Xor.{_⊕_, comm, self, zero-r}
+use Rattle.xor.specs.Sum.{xorBelow, ext, keep-zero}
+use Rattle.residue.specs.Power.{ReachesAll}
+use Rattle.code.specs.Slope.{Slope, slope-inverse}
+use Rattle.code.specs.Tile.{Cells, line, sum}
+use Rattle.code.specs.Sums.{plus, totals}
+use Rattle.code.specs.Settle.{settles-ext, settles-sums}
+use Rattle.code.specs.Turn.{turned, padded-turned, settles-turned, turned-settles}
+use Rattle.code.specs.OneLine.{Agree, shifted, along, along-ext, one-line-agrees, one-line-settles}
+use Rattle.code.specs.Pair.{pair-crossing}
+use Rattle.code.specs.Columns.{stride, stride-is, rowBy, stopBy}
+use Rattle.code.specs.Crossed.{cellBy}
+use Rattle.code.specs.Existence.{columns-closing, crossed-closing, turned-total}
+use Rattle.code.specs.declared.Line.{Line}
+use Rattle.code.specs.declared.Line.the-variants.{Row, Column}
+use Rattle.code.specs.Held.{held}
+use Rattle.walk.specs.Sums.{Sums}
+use Rattle.search.specs.Column.{Shifted}
+use Rattle.chain.specs.Solve.{SettledBy, Unsettled, Solved, Closes}
+
+-- the sums of both slopes have one total, also as arrays hold them
+pub held-totals : (p l : ℕ) (T : Cells) (a b : List ℕ) → Sums p 1 T a → Sums p l T b → xorBelow p (held a) ≡ xorBelow p (held b)
+held-totals p l T a b ha hb = ext p (held a) (sum p 1 T) ha ∙ totals p 1 l T ∙ sym (ext p (held b) (sum p l T) hb)
+
+-- and so have those of the turned tile
+pub held-turned : (p l : ℕ) (A B B′ : ℕ → ℕ) → Slope p l → ((t : ℕ) → t < p → B′ t ≡ B (l * t % p)) → xorBelow p A ≡ xorBelow p B → xorBelow p A ≡ xorBelow p B′
+held-turned p l A B B′ S h e = e ∙ sym (ext p B′ (λ t. B (l * t % p)) h ∙ turned-total p l B S)
+
+module _ (p l : ℕ) (a b : Line) (A B : ℕ → ℕ) (x y : ℕ → ℕ) where
+  -- only the sums of the lines 0 to p-1 count
+  pub solved-sums : (A′ B′ : ℕ → ℕ) (exists : Bool) → ((t : ℕ) → t < p → A t ≡ A′ t) → ((t : ℕ) → t < p → B t ≡ B′ t)
+      → Solved p l a b A B exists x y → Solved p l a b A′ B′ exists x y
+  solved-sums A′ B′ true ha hb s = record { settles = settles-sums p l A B A′ B′ _ ha hb (s .settles); first = s .first; second = s .second }
+  solved-sums A′ B′ false ha hb s = λ D g. s D (settles-sums p l A′ B′ A B D (λ t h. sym (ha t h)) (λ t h. sym (hb t h)) g)
+
+  -- the lines may be named in either order
+  pub solved-either : (exists : Bool) → Solved p l a b A B exists x y → Solved p l b a A B exists y x
+  solved-either true s = record {
+    settles = settles-ext p l A B (plus (along a x) (along b y)) (plus (along b y) (along a x)) (λ i j hi hj. comm _ _) (s .settles);
+    first = s .second;
+    second = s .first;
+  }
+  solved-either false s = λ D g z off. s D g z (λ i j hi hj d e. off i j hi hj e d)
+
+-- rows are columns of the turned tile, whose slope is the inverse m
+pub solved-rows : (p l m r s : ℕ) (A B B′ x y : ℕ → ℕ) (exists : Bool) → l * m % p ≡ 1 → ((t : ℕ) → t < p → B′ t ≡ B (l * t % p))
+    → Solved p m (Column r) (Column s) A B′ exists x y → Solved p l (Row r) (Row s) A B exists x y
+solved-rows p l m r s A B B′ x y true inverse h t = record {
+  settles =
+      turned-settles p l m inverse A B (plus (along (Row r) x) (along (Row s) y))
+      (settles-sums p m A B′ A (λ t. B (l * t % p)) (plus (along (Column r) x) (along (Column s) y)) (λ t q. refl) h (t .settles));
+  first = t .first;
+  second = t .second;
+}
+solved-rows p l m r s A B B′ x y false inverse h t = λ D g z off.
+    t (turned D) (settles-sums p m A (λ t. B (l * t % p)) A B′ (turned D) (λ t q. refl) (λ t q. sym (h t q)) (settles-turned p l m inverse A B D g))
+    (padded-turned p D z) (λ i j hi hj d e. off j i hj hi d e)
+
+module _ (p l : ℕ) (A B : ℕ → ℕ) (S : Slope p l) where
+  -- one column, where the sums agree along it: its change, and no second one
+  pub one-yes : (c : ℕ) (x y : ℕ → ℕ) → c < p - 1 → Agree p l A B (Column c) → Shifted p A (Column c) x → ((k : ℕ) → y k ≡ 0)
+      → SettledBy p l (Column c) (Column c) A B x y
+  one-yes c x y hc e h z = record {
+    settles =
+        settles-ext p l A B (along (Column c) (shifted p A (Column c))) (plus (along (Column c) x) (along (Column c) y))
+        (λ i j hi hj. sym (ap (λ (w : ℕ). along (Column c) x i j ⊕ w) (rw (z i) (keep-zero (eqb j c))) ∙ zero-r _ ∙ along-ext p (Column c) x _ h i j hi hj))
+        (let m = slope-inverse p l S in one-line-settles p l (m .0) (m .1) A B (Column c) (omega arith) e);
+    first = h (p - 1) (omega arith) ∙ self _;
+    second = z (p - 1);
+  }
+
+  -- and where they do not, none
+  pub one-no : (c : ℕ) → c < p - 1 → (Agree p l A B (Column c) → ⊥) → Unsettled p l (Column c) (Column c) A B
+  one-no c hc d = λ D g z off.
+      let m = slope-inverse p l S in d (one-line-agrees p l (m .0) (m .1) A B (Column c) D (omega arith) g (λ i j hi hj q. off i j hi hj q q))
+
+  -- two columns: the chain closes
+  pub columns-close : (u v : ℕ) → u < p → v < p → u ≢ v → xorBelow p A ≡ xorBelow p B → Closes p l u (Column v) A B
+  columns-close u v hu hv d e = record {
+    walk = rowBy p (stride p l u v);
+    stop = stopBy p (stride p l u v) u v;
+    closing = columns-closing p l u v (stride p l u v) A B S hu hv d (stride-is p l u v (omega arith)) e;
+  }
+
+  -- a column with a row: it closes where the sums through the crossing agree
+  pub crossed-close : (t s : ℕ) → ReachesAll p l → s < p - 1 → t < p → xorBelow p A ≡ xorBelow p B → A (line p 1 s t) ≡ B (line p l s t) → Closes p l t (Row s) A B
+  crossed-close t s all hs ht e cross = record {
+    walk = cellBy p l s s;
+    stop = cellBy p l s t;
+    closing = crossed-closing p l s t A B S all hs ht e cross;
+  }
+
+  -- and where they do not, there is no change
+  pub crossed-no : (t s : ℕ) → s < p - 1 → t < p - 1 → (A (line p 1 s t) ≡ B (line p l s t) → ⊥) → Unsettled p l (Column t) (Row s) A B
+  crossed-no t s hs ht d = λ D g z off.
+      let m = slope-inverse p l S in d (pair-crossing p l (m .0) (m .1) A B t (omega arith) (Row s) (omega arith) D g off t (omega arith) refl)

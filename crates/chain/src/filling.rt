@@ -1,0 +1,174 @@
+// The changes that fill one or two flagged lines.
+use crate::pair;
+use crate::pair::Pair;
+use code::Line;
+use search::column;
+use search::column::zeros;
+use walk::index::through;
+use walk::sums::line_sums;
+use walk::turn;
+ghost use mathlib.Core.Path.{_≡_};
+ghost use mathlib.Core.Bool.{false};
+ghost use Prim.Native.Nat.{_-_, _≤_, _<_};
+ghost use lib.ListN.{length};
+ghost use Rattle.xor.specs.Sum.{xorBelow};
+ghost use Rattle.residue.specs.Power.{ReachesAll};
+ghost use Rattle.code.specs.Slope.{Slope};
+ghost use Rattle.code.specs.Tile.{cell, sum, tileLength};
+ghost use Rattle.code.specs.OneLine as law;
+ghost use Rattle.code.specs.declared.Line.the-variants.{Row, Column};
+ghost use Rattle.code.specs.Held.{held};
+ghost use Rattle.chain.specs.Solve.{Solved, Closes};
+
+// Whether there is a filling, and the changes in the two lines that make it.
+pub struct Filling {
+    pub exists: bool,
+    pub first: [u8; 257],
+    pub second: [u8; 257],
+}
+
+// The filling of two lines of a tile, or of one line named twice.
+pub fn solve(p: usize, l: usize, tile: &[u8], first: Line, second: Line) -> Filling
+    requires { ⌜ Slope p l ⌝ }
+    requires { ⌜ ReachesAll p l ⌝ }
+    requires { ⌜ (p ≤ 257) × (length (now tile) ≡ tileLength p) × (law.number first < p - 1) × (law.number second < p - 1) ⌝ }
+    ensures { λ r. ⌜ Solved p l first second (sum p 1 (cell p (now (tile .entry)))) (sum p l (cell p (now (tile .entry)))) (r .exists) (held (r .first)) (held (r .second)) ⌝ }
+{
+    let a = line_sums(p, 1, tile);
+    let b = line_sums(p, l, tile);
+    settle(p, l, first, second, &a, &b)
+}
+
+// The changes in the two lines that settle the sums a and b.
+fn settle(p: usize, l: usize, first: Line, second: Line, a: &[u8; 257], b: &[u8; 257]) -> Filling
+    requires { ⌜ Slope p l ⌝ }
+    requires { ⌜ ReachesAll p l ⌝ }
+    requires { ⌜ (p ≤ 257) × (law.number first < p - 1) × (law.number second < p - 1) × (xorBelow p (held (now a)) ≡ xorBelow p (held (now b))) ⌝ }
+    ensures { λ r. ⌜ Solved p l first second (held (now (a .entry))) (held (now (b .entry))) (r .exists) (held (r .first)) (held (r .second)) ⌝ }
+{
+    match first {
+        Line::Row(r) => match second {
+            Line::Row(s) => rows(p, l, r, s, a, b),
+            Line::Column(t) => exchanged(crossed(p, l, t, r, a, b)),
+        },
+        Line::Column(t) => match second {
+            Line::Row(s) => crossed(p, l, t, s, a, b),
+            Line::Column(v) => columns(p, l, t, v, a, b),
+        },
+    }
+}
+
+// No filling.
+fn none() -> Filling
+    ensures { λ r. ⌜ r .exists ≡ false ⌝ }
+{
+    Filling {
+        exists: false,
+        first: zeros(),
+        second: zeros(),
+    }
+}
+
+// The same filling with the lines named in the other order.
+fn exchanged(filling: Filling) -> Filling
+    ensures { λ r. ⌜ (r .exists ≡ filling .exists) × (r .first ≡ filling .second) × (r .second ≡ filling .first) ⌝ }
+{
+    let first = filling.first;
+    let second = filling.second;
+    Filling {
+        exists: filling.exists,
+        first: second,
+        second: first,
+    }
+}
+
+// Two rows, or one named twice: they are columns of the turned tile.
+fn rows(p: usize, l: usize, r: usize, s: usize, a: &[u8; 257], b: &[u8; 257]) -> Filling
+    requires { ⌜ Slope p l ⌝ }
+    requires { ⌜ (p ≤ 257) × (r < p - 1) × (s < p - 1) × (xorBelow p (held (now a)) ≡ xorBelow p (held (now b))) ⌝ }
+    ensures { λ w. ⌜ Solved p l (Row r) (Row s) (held (now (a .entry))) (held (now (b .entry))) (w .exists) (held (w .first)) (held (w .second)) ⌝ }
+{
+    columns(p, turn::inverse(p, l), r, s, a, &turn::turned(p, l, b))
+}
+
+// Two columns always have a filling; one column, named twice, may have none.
+fn columns(p: usize, l: usize, u: usize, v: usize, a: &[u8; 257], b: &[u8; 257]) -> Filling
+    requires { ⌜ Slope p l ⌝ }
+    requires { ⌜ (p ≤ 257) × (u < p - 1) × (v < p - 1) × (xorBelow p (held (now a)) ≡ xorBelow p (held (now b))) ⌝ }
+    ensures { λ r. ⌜ Solved p l (Column u) (Column v) (held (now (a .entry))) (held (now (b .entry))) (r .exists) (held (r .first)) (held (r .second)) ⌝ }
+{
+    if u == v {
+        one_column(p, l, u, a, b)
+    } else {
+        paired(
+            Pair {
+                p: p,
+                l: l,
+                column: u,
+                line: Line::Column(v),
+            },
+            a,
+            b,
+        )
+    }
+}
+
+// One column, named twice: it has a filling where the sums agree along it.
+fn one_column(p: usize, l: usize, c: usize, a: &[u8; 257], b: &[u8; 257]) -> Filling
+    requires { ⌜ Slope p l ⌝ }
+    requires { ⌜ (p ≤ 257) × (c < p - 1) ⌝ }
+    ensures { λ r. ⌜ Solved p l (Column c) (Column c) (held (now (a .entry))) (held (now (b .entry))) (r .exists) (held (r .first)) (held (r .second)) ⌝ }
+{
+    if column::explaining(p, l, c, c + 1, a, b) == c {
+        Filling {
+            exists: true,
+            first: column::shifted(p, Line::Column(c), a),
+            second: zeros(),
+        }
+    } else {
+        none()
+    }
+}
+
+// A column with a row: they have a filling where the two sums through the crossing agree.
+fn crossed(p: usize, l: usize, t: usize, s: usize, a: &[u8; 257], b: &[u8; 257]) -> Filling
+    requires { ⌜ Slope p l ⌝ }
+    requires { ⌜ ReachesAll p l ⌝ }
+    requires { ⌜ (p ≤ 257) × (t < p - 1) × (s < p - 1) × (xorBelow p (held (now a)) ≡ xorBelow p (held (now b))) ⌝ }
+    ensures { λ r. ⌜ Solved p l (Column t) (Row s) (held (now (a .entry))) (held (now (b .entry))) (r .exists) (held (r .first)) (held (r .second)) ⌝ }
+{
+    let row = Line::Row(s);
+    let first = through(p, 1, row, t);
+    let second = through(p, l, row, t);
+    if a[first] == b[second] {
+        paired(
+            Pair {
+                p: p,
+                l: l,
+                column: t,
+                line: row,
+            },
+            a,
+            b,
+        )
+    } else {
+        none()
+    }
+}
+
+// A column with a second line, where the chain between them closes.
+fn paired(lost: Pair, a: &[u8; 257], b: &[u8; 257]) -> Filling
+    requires { ⌜ Slope (lost .p) (lost .l) ⌝ }
+    requires { ⌜ (lost .p ≤ 257) × (lost .column < lost .p) × (law.number (lost .line) < lost .p) ⌝ }
+    requires { ⌜ Closes (lost .p) (lost .l) (lost .column) (lost .line) (held (now a)) (held (now b)) ⌝ }
+    ensures { λ r. ⌜ Solved (lost .p) (lost .l) (Column (lost .column)) (lost .line) (held (now (a .entry))) (held (now (b .entry))) (r .exists) (held (r .first)) (held (r .second)) ⌝ }
+{
+    let changes = pair::solve(lost, a, b);
+    let first = changes.column;
+    let second = changes.line;
+    Filling {
+        exists: true,
+        first: first,
+        second: second,
+    }
+}

@@ -1,0 +1,40 @@
+-- WHAT A READER MUST BELIEVE: the answer and the numbers that stand for what a correction and a reel say. Assumes nothing.
+use Prim.Native.Nat.{ℕ}
+use Rattle.sheet.specs.Answer as sheet
+use Rattle.reel.specs.Answer as reel
+use Rattle.word.specs.Word.{Answer, answer, done, refusal}
+
+-- what a correction says: "the count, or a refusal's offset, in `*count_or_offset`"
+abbrev pub sheetAnswer : sheet.Said → Answer
+sheetAnswer (sheet.corrected n) = done
+sheetAnswer (sheet.refused n at) = refusal n
+
+abbrev pub countOrOffset : sheet.Said → ℕ
+countOrOffset (sheet.corrected n) = n
+countOrOffset (sheet.refused n at) = at
+
+-- what stands at a place of a reel: "0 in what it has no value for, and a refusal's offset in `*offset`"
+abbrev pub reelAnswer : reel.Said → Answer
+reelAnswer (reel.tile number p l from) = done
+reelAnswer reel.end = answer 7 0 0
+reelAnswer (reel.refused n from) = refusal n
+
+abbrev pub tileNumber : reel.Said → ℕ
+tileNumber (reel.tile number p l from) = number
+tileNumber reel.end = 0
+tileNumber (reel.refused n from) = 0
+
+abbrev pub tileSize : reel.Said → ℕ
+tileSize (reel.tile number p l from) = p
+tileSize reel.end = 0
+tileSize (reel.refused n from) = 0
+
+abbrev pub tileSlope : reel.Said → ℕ
+tileSlope (reel.tile number p l from) = l
+tileSlope reel.end = 0
+tileSlope (reel.refused n from) = 0
+
+abbrev pub offset : reel.Said → ℕ
+offset (reel.tile number p l from) = from
+offset reel.end = 0
+offset (reel.refused n from) = from

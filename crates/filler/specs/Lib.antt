@@ -1,0 +1,2 @@
+-- How a filling ends.
+pub mod Filled

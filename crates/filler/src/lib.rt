@@ -1,0 +1,57 @@
+// Filling one or two flagged lines of a tile.
+use cells::change::add_line;
+use chain::filling;
+use code::Line;
+use promise::Outcome;
+use promise::judge_tile;
+use size::Judgement;
+use size::Refusal;
+use walk::index::number;
+ghost use Rattle.code.specs.Says.{Says};
+ghost use Rattle.promise.specs.Answer.{outcomeSaid};
+ghost use Rattle.promise.specs.Calls.{Has, FillTold};
+
+// Does a tile of size p have the line?
+fn has(p: usize, line: Line) -> bool
+    ensures { λ r. ⌜ Says r (Has p line) ⌝ }
+{
+    if p < 2 {
+        return false;
+    }
+    if p - 2 < number(line) {
+        return false;
+    }
+    true
+}
+
+// Does it have both?
+fn has_both(p: usize, first: Line, second: Line) -> bool
+    ensures { λ r. ⌜ Says r (Has p first × Has p second) ⌝ }
+{
+    if has(p, first) { has(p, second) } else { false }
+}
+
+// Fills one or two flagged lines, whatever bytes they hold. One line is named twice.
+pub fn fill(p: usize, l: usize, tile: &mut [u8], first: Line, second: Line) -> Outcome
+    ensures { λ r. ⌜ FillTold p l (now (tile .entry)) first second (outcomeSaid r) (now (tile .exit)) ⌝ }
+{
+    match judge_tile(p, l, tile.len()) {
+        Judgement::Refused(refusal) => Outcome::Refused(refusal),
+        Judgement::Taken => {
+            if has_both(p, first, second) {
+                let filling = filling::solve(p, l, tile, first, second);
+                let x = filling.first;
+                let y = filling.second;
+                if filling.exists {
+                    add_line(p, first, &x, tile);
+                    add_line(p, second, &y, tile);
+                    Outcome::Done
+                } else {
+                    Outcome::Refused(Refusal::Damaged)
+                }
+            } else {
+                Outcome::Refused(Refusal::BadPlace)
+            }
+        }
+    }
+}

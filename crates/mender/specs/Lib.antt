@@ -1,0 +1,2 @@
+-- How a repair ends.
+pub mod Mended

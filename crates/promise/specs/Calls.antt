@@ -1,0 +1,72 @@
+-- WHAT A READER MUST BELIEVE: what each tile call promises, in the words of document 01. Each promise is one relation between what came
+-- in, what was answered, and what the lent bytes are afterwards. Assumes nothing.
+use mathlib.Core.Path.{_≡_}
+use mathlib.Core.List.{List}
+use Prim.Native.Nat.{ℕ, _+_, _≤_, _<_}
+use lib.ListN.{length}
+use Rattle.code.specs.Tile.{tileLength, textLength, Good, textOf, Writes, EqualOutside, Fills}
+use Rattle.code.specs.OneLine.{number}
+use Rattle.code.specs.declared.Line.{Line}
+use Rattle.code.specs.declared.Line.the-variants.{Row, Column}
+use Rattle.size.specs.Answer as size
+use Rattle.promise.specs.Answer.{Said, done, clean, column, row, refused}
+
+-- "Order: 1, 2, 3, then the call's own": 1 and 2 as the size and the slope are judged, then 3 exactly when "a lent text or tile has the
+-- wrong length"
+pub data Admitted (p l : ℕ) (Lengths : Type 0) : size.Said → Type 0 where
+  judged : {n : ℕ} → size.Judged p l (size.refused n) → Admitted p l Lengths (size.refused n)
+  no-length : size.Judged p l size.well → (Lengths → ⊥) → Admitted p l Lengths (size.refused 3)
+  admitted : size.Judged p l size.well → Lengths → Admitted p l Lengths size.well
+
+-- the lengths that repair and fill ask for, and those that write and read do
+abbrev pub TileLength : ℕ → List ℕ → Type 0
+TileLength p tile = length tile ≡ tileLength p
+
+abbrev pub BothLengths : ℕ → List ℕ → List ℕ → Type 0
+BothLengths p tile text = TileLength p tile × (length text ≡ textLength p)
+
+-- WRITE. "from text, the one good tile with that text"
+pub data WriteTold (p l : ℕ) (text tile : List ℕ) : Said → List ℕ → Type 0 where
+  refuses : {n : ℕ} → Admitted p l (BothLengths p tile text) (size.refused n) → WriteTold p l text tile (refused n) tile
+  writes : {new : List ℕ} → Admitted p l (BothLengths p tile text) size.well → Writes p l text new → WriteTold p l text tile done new
+
+-- READ. "the text of a good tile; a tile that isn't good is refused with 5"
+pub data ReadTold (p l : ℕ) (tile text : List ℕ) : Said → List ℕ → Type 0 where
+  refuses : {n : ℕ} → Admitted p l (BothLengths p tile text) (size.refused n) → ReadTold p l tile text (refused n) text
+  not-good : Admitted p l (BothLengths p tile text) size.well → (Good p l tile → ⊥) → ReadTold p l tile text (refused 5) text
+  reads : Admitted p l (BothLengths p tile text) size.well → Good p l tile → ReadTold p l tile text done (textOf p tile)
+
+-- "some good tile differs from it in cells of one column only", and "the same for a row": y is a good tile that differs from x within the
+-- line a
+pub record Explains (p l : ℕ) (a : Line) (x y : List ℕ) : Type 0 where
+  pub size : length y ≡ tileLength p
+  pub good : Good p l y
+  pub same : EqualOutside p a x y
+
+-- no good tile does
+abbrev pub Unexplained : ℕ → ℕ → List ℕ → Line → Type 0
+Unexplained p l x a = (y : List ℕ) → Explains p l a x y → ⊥
+
+-- REPAIR. "if the tile is good, the answer is Clean. Otherwise, if some good tile differs from it in cells of one column only, the tile
+-- becomes that one and the answer names the column. Otherwise the same for a row. Otherwise 5. Columns are tried from 0 upward"
+pub data RepairTold (p l : ℕ) (tile : List ℕ) : Said → List ℕ → Type 0 where
+  refuses : {n : ℕ} → Admitted p l (TileLength p tile) (size.refused n) → RepairTold p l tile (refused n) tile
+  is-good : Admitted p l (TileLength p tile) size.well → Good p l tile → RepairTold p l tile clean tile
+  by-column : {c : ℕ} {new : List ℕ} → Admitted p l (TileLength p tile) size.well → (Good p l tile → ⊥)
+      → Explains p l (Column c) tile new → ((k : ℕ) → k < c → Unexplained p l tile (Column k)) → RepairTold p l tile (column c) new
+  by-row : {r : ℕ} {new : List ℕ} → Admitted p l (TileLength p tile) size.well → ((k : ℕ) → Unexplained p l tile (Column k))
+      → Explains p l (Row r) tile new → ((k : ℕ) → k < r → Unexplained p l tile (Row k)) → RepairTold p l tile (row r) new
+  by-none : Admitted p l (TileLength p tile) size.well → ((a : Line) → Unexplained p l tile a) → RepairTold p l tile (refused 5) tile
+
+-- "a flagged line is above p-2": otherwise the tile has it
+abbrev pub Has : ℕ → Line → Type 0
+Has p a = number a + 2 ≤ p
+
+-- FILL. "The tile becomes the good tile that agrees with it elsewhere; if there is none, 5." "Fill: 4, then 5."
+pub data FillTold (p l : ℕ) (tile : List ℕ) (a b : Line) : Said → List ℕ → Type 0 where
+  refuses : {n : ℕ} → Admitted p l (TileLength p tile) (size.refused n) → FillTold p l tile a b (refused n) tile
+  no-line : Admitted p l (TileLength p tile) size.well → (Has p a × Has p b → ⊥) → FillTold p l tile a b (refused 4) tile
+  none : Admitted p l (TileLength p tile) size.well → Has p a → Has p b → ((y : List ℕ) → Fills p l a b tile y → ⊥)
+      → FillTold p l tile a b (refused 5) tile
+  fills : {new : List ℕ} → Admitted p l (TileLength p tile) size.well → Has p a → Has p b → Fills p l a b tile new
+      → FillTold p l tile a b done new

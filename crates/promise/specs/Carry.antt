@@ -1,0 +1,73 @@
+-- Repair and fill carry a good tile through: where one is added to a tile, the answer is the same, and the tile that is left is the one that
+-- would have been, with that good tile added. Assumes nothing.
+use mathlib.Core.Path.{_≡_, refl, sym, ap, _∙_}
+use mathlib.Core.List.{List}
+use Prim.Native.Nat.{ℕ}
+use lib.ListN.{length}
+use Rattle.xor.specs.Xor.{_⊕_}
+use Rattle.code.specs.Tile.{tileLength, cell, Good, Fills, xored}
+use Rattle.code.specs.Xored.{xored-length, xored-twice, xored-cell, xored-good}
+use Rattle.code.specs.declared.Line.{Line}
+use Rattle.size.specs.Answer as size
+use Rattle.promise.specs.Answer.{Said, refused}
+use Rattle.promise.specs.Calls.{Admitted, TileLength, Explains, Unexplained, RepairTold, FillTold}
+use Rattle.promise.specs.Admit.{admitted-well}
+use Rattle.promise.specs.Explain.{explains-fills}
+
+-- w is the good tile that is added
+module _ (p l : ℕ) (w : List ℕ) (g : Good p l w) where
+  -- what is judged of the tile's length stays
+  admitted-carried : (x : List ℕ) {s : size.Said} → Admitted p l (TileLength p x) s → Admitted p l (TileLength p (xored x w)) s
+  admitted-carried x h = rw (xored-length x w) h
+
+  -- a filling of x, with w added, is one of x with w added ..
+  fills-carried : (a b : Line) (x y : List ℕ) → length x ≡ tileLength p → Fills p l a b x y → Fills p l a b (xored x w) (xored y w)
+  fills-carried a b x y e f = record {
+    size = xored-length y w ∙ f .size;
+    good = xored-good p y w (f .size) l (f .good) g;
+    agrees = λ i j hi hj d q.
+        xored-cell p x w e i j hi hj ∙ ap (λ (v : ℕ). v ⊕ cell p w i j) (f .agrees i j hi hj d q) ∙ sym (xored-cell p y w (f .size) i j hi hj);
+  }
+
+  -- .. and back, since w added twice is gone
+  fills-back : (a b : Line) (x y : List ℕ) → length x ≡ tileLength p → Fills p l a b (xored x w) y → Fills p l a b x (xored y w)
+  fills-back a b x y e f = rw (xored-twice x w) at (fills-carried a b (xored x w) y (xored-length x w ∙ e) f)
+
+  -- the same of one line, which is a filling of that line named twice
+  explains-carried : (a : Line) (x y : List ℕ) → length x ≡ tileLength p → Explains p l a x y → Explains p l a (xored x w) (xored y w)
+  explains-carried a x y e f = explains-fills p l a (xored x w) (xored y w) .1 (fills-carried a a x y e (explains-fills p l a x y .0 f))
+
+  unexplained-carried : (a : Line) (x : List ℕ) → length x ≡ tileLength p → Unexplained p l x a → Unexplained p l (xored x w) a
+  unexplained-carried a x e u y f = u (xored y w) (explains-fills p l a x (xored y w) .1 (fills-back a a x y e (explains-fills p l a (xored x w) y .0 f)))
+
+  hurt-carried : (x : List ℕ) → length x ≡ tileLength p → (Good p l x → ⊥) → Good p l (xored x w) → ⊥
+  hurt-carried x e d h = d (rw (xored-twice x w) at (xored-good p (xored x w) w (xored-length x w ∙ e) l h g))
+
+  -- REPAIR carries w through
+  pub repair-carried : {x y : List ℕ} {s : Said} → RepairTold p l x s y → RepairTold p l (xored x w) s (xored y w)
+  repair-carried {x} (RepairTold.refuses h) = RepairTold.refuses (admitted-carried x h)
+  repair-carried {x} (RepairTold.is-good h good) = RepairTold.is-good (admitted-carried x h) (xored-good p x w (admitted-well h .2) l good g)
+  repair-carried {x} {y} (RepairTold.by-column {c} h bad e before) =
+      let size = admitted-well h .2 in
+      RepairTold.by-column (admitted-carried x h) (hurt-carried x size bad) (explains-carried _ x y size e) (λ k q. unexplained-carried _ x size (before k q))
+  repair-carried {x} {y} (RepairTold.by-row {r} h columns e before) =
+      let size = admitted-well h .2 in
+      RepairTold.by-row (admitted-carried x h) (λ k. unexplained-carried _ x size (columns k)) (explains-carried _ x y size e)
+      (λ k q. unexplained-carried _ x size (before k q))
+  repair-carried {x} (RepairTold.by-none h lines) = RepairTold.by-none (admitted-carried x h) (λ a. unexplained-carried a x (admitted-well h .2) (lines a))
+
+  -- and so does FILL
+  pub fill-carried : {x y : List ℕ} {a b : Line} {s : Said} → FillTold p l x a b s y → FillTold p l (xored x w) a b s (xored y w)
+  fill-carried {x} (FillTold.refuses h) = FillTold.refuses (admitted-carried x h)
+  fill-carried {x} (FillTold.no-line h f) = FillTold.no-line (admitted-carried x h) f
+  fill-carried {x} {y} {a} {b} (FillTold.none h ha hb f) =
+      FillTold.none (admitted-carried x h) ha hb (λ z q. f (xored z w) (fills-back a b x z (admitted-well h .2) q))
+  fill-carried {x} {y} {a} {b} (FillTold.fills h ha hb f) = FillTold.fills (admitted-carried x h) ha hb (fills-carried a b x y (admitted-well h .2) f)
+
+-- where a repair succeeds it leaves a good tile
+pub repaired-good : {p l : ℕ} {x y : List ℕ} {s : Said} → ((n : ℕ) → s ≡ refused n → ⊥) → RepairTold p l x s y → (length y ≡ tileLength p) × Good p l y
+repaired-good d (RepairTold.refuses {n} h) = absurd (d n refl)
+repaired-good d (RepairTold.is-good h g) = (admitted-well h .2, g)
+repaired-good d (RepairTold.by-column h bad e before) = (e .size, e .good)
+repaired-good d (RepairTold.by-row h columns e before) = (e .size, e .good)
+repaired-good d (RepairTold.by-none h f) = absurd (d 5 refl)

@@ -1,0 +1,11 @@
+-- The tile calls: what a reader must believe (`Answer`, `Calls`), and what follows from it.
+pub mod Answer
+pub mod Calls
+pub mod Admit
+pub mod Explain
+pub mod Once
+pub mod Promise
+pub mod Carry
+pub mod Decide
+pub mod Worked
+pub mod Shams

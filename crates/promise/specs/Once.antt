@@ -1,0 +1,239 @@
+-- The contracts settle the answers and the bytes: two outcomes that are allowed for the same input are the same. Assumes nothing.
+use mathlib.Core.Path.{_≡_, refl, sym, ap, _∙_}
+use mathlib.Core.Logic.{inr}
+use mathlib.Core.List.{List}
+use Prim.Native.Nat.{ℕ, _<_}
+use native.Mathlib.Nat.{le-antisymm}
+use native.Mathlib.Omega.{by-contra}
+use Rattle.code.specs.Size.{Size, Allowed}
+use Rattle.code.specs.Slope.{Slope, allowed-slope}
+use Rattle.code.specs.Tile.{tileLength, Good, textOf, Writes, Fills}
+use Rattle.code.specs.Filling.{filled-once}
+use Rattle.code.specs.Writing.{written-once}
+use Rattle.code.specs.declared.Line.{Line}
+use Rattle.code.specs.declared.Line.the-variants.{Row, Column}
+use Rattle.size.specs.Answer as size
+use Rattle.size.specs.Answer.{judgementSaid}
+use Rattle.size.specs.Refusal.{numberOf}
+use Rattle.size.specs.Once.{number-once, judgement-said-once}
+use Rattle.size.specs.declared.Judgement.{Judgement}
+use Rattle.promise.specs.Answer.{Said, done, clean, column, row, refused, outcomeSaid, repairSaid}
+use Rattle.promise.specs.Calls.{Admitted, TileLength, BothLengths, WriteTold, ReadTold, Explains, Unexplained, RepairTold, Has, FillTold}
+use Rattle.promise.specs.Admit.{admitted-well, admitted-no, admitted-once}
+use Rattle.promise.specs.Explain.{unexplained-hurt, explains-once}
+use Rattle.promise.specs.declared.Outcome.{Outcome}
+use Rattle.promise.specs.declared.Outcome.the-variants as outcome
+use Rattle.promise.specs.declared.Repaired.{Repaired}
+use Rattle.promise.specs.declared.Repaired.the-variants as repair
+
+-- ---- what the four calls share
+
+-- R allows one outcome at most
+abbrev pub Single : {Answer : Type 0} → (Answer → List ℕ → Type 0) → Type 0
+Single {Answer} R = (a b : Answer) (x y : List ℕ) → R a x → R b y → (a ≡ b) × (x ≡ y)
+
+-- one answer, with bytes of which P holds ..
+abbrev Only : Said → (List ℕ → Type 0) → Said → List ℕ → Type 0
+Only s P a x = (a ≡ s) × P x
+
+-- .. is one outcome, if P holds of one list at most
+only-single : (s : Said) (P : List ℕ → Type 0) → ((x y : List ℕ) → P x → P y → x ≡ y) → Single (Only s P)
+only-single s P f a b x y t u = (t .0 ∙ sym (u .0), f x y (t .1) (u .1))
+
+-- one answer, with given bytes ..
+abbrev Just : Said → List ℕ → Said → List ℕ → Type 0
+Just s y = Only s (λ x. x ≡ y)
+
+-- .. is one outcome
+just-single : (s : Said) (y : List ℕ) → Single (Just s y)
+just-single s y = only-single s (λ x. x ≡ y) (λ x z e f. e ∙ sym f)
+
+-- the outcomes of R where A holds, and else those of S ..
+data Else (A : Type 0) (R S : Said → List ℕ → Type 0) (a : Said) (x : List ℕ) : Type 0 where
+  holds : A → R a x → Else A R S a x
+  fails : (A → ⊥) → S a x → Else A R S a x
+
+-- .. are one outcome, if each are: A cannot both hold and fail
+else-single : {A : Type 0} {R S : Said → List ℕ → Type 0} → (A → Single R) → Single S → Single (Else A R S)
+else-single f g a b x y (holds h r) (holds k s) = f h a b x y r s
+else-single f g a b x y (holds h r) (fails k s) = absurd (k h)
+else-single f g a b x y (fails h r) (holds k s) = absurd (h k)
+else-single f g a b x y (fails h r) (fails k s) = g a b x y r s
+
+-- a call that is not admitted: the number that refuses it, and the lent bytes as they were ..
+data NotAdmitted (p l : ℕ) (Lengths : Type 0) (lent : List ℕ) : Said → List ℕ → Type 0 where
+  not-admitted : {n : ℕ} → Admitted p l Lengths (size.refused n) → NotAdmitted p l Lengths lent (refused n) lent
+
+-- .. is one outcome, as one number refuses it
+not-admitted-single : (p l : ℕ) (Lengths : Type 0) (lent : List ℕ) → Single (NotAdmitted p l Lengths lent)
+not-admitted-single p l Lengths lent a b x y (not-admitted {n} h) (not-admitted {n = m} k) =
+    let e : size.refused n ≡ size.refused m = admitted-once p l Lengths (size.refused n) (size.refused m) h k in (cc, refl)
+
+-- every call: its own outcomes where size, slope and lengths are right, and else a refusal
+abbrev Call : ℕ → ℕ → Type 0 → List ℕ → (Said → List ℕ → Type 0) → Said → List ℕ → Type 0
+Call p l Lengths lent Own = Else (Size p × Allowed p l × Lengths) Own (NotAdmitted p l Lengths lent)
+
+module _ {p l : ℕ} {Lengths : Type 0} {lent : List ℕ} {Own : Said → List ℕ → Type 0} where
+  -- a call refuses, or goes on, as it is admitted
+  refuses : {n : ℕ} → Admitted p l Lengths (size.refused n) → Call p l Lengths lent Own (refused n) lent
+  refuses h = fails (admitted-no h) (not-admitted h)
+
+  goes-on : {a : Said} {x : List ℕ} → Admitted p l Lengths size.well → Own a x → Call p l Lengths lent Own a x
+  goes-on h r = holds (admitted-well h) r
+
+  -- where its own outcomes are one, a call allows one outcome
+  call-once : {a b : Said} {x y : List ℕ} → Call p l Lengths lent Own a x → Call p l Lengths lent Own b y
+      → (Slope p l → Allowed p l → Single Own) → (a ≡ b) × (x ≡ y)
+  call-once {a} {b} {x} {y} t u f =
+      else-single (λ h. f (allowed-slope p l (h .0) (h .1)) (h .1)) (not-admitted-single p l Lengths lent) a b x y t u
+
+-- ---- each call
+
+-- write: the one good tile with the text
+module _ (p l : ℕ) (text tile : List ℕ) where
+  -- a write, as such a call
+  write-call : {a : Said} {x : List ℕ} → WriteTold p l text tile a x → Call p l (BothLengths p tile text) tile (Only done (Writes p l text)) a x
+  write-call (WriteTold.refuses h) = refuses h
+  write-call (WriteTold.writes h w) = goes-on h (refl, w)
+
+  -- so two outcomes of a write are the same: one good tile has the text
+  pub write-told-once : (a b : Said) (x y : List ℕ) → WriteTold p l text tile a x → WriteTold p l text tile b y → (a ≡ b) × (x ≡ y)
+  write-told-once a b x y t u =
+      call-once (write-call t) (write-call u) (λ S w. only-single done (Writes p l text) (λ v z. written-once p l text v z S))
+
+-- read: the text of a good tile, and else 5
+module _ (p l : ℕ) (tile text : List ℕ) where
+  -- its own outcomes
+  abbrev ReadOwn : Said → List ℕ → Type 0
+  ReadOwn = Else (Good p l tile) (Just done (textOf p tile)) (Just (refused 5) text)
+
+  -- a read, as such a call
+  read-call : {a : Said} {x : List ℕ} → ReadTold p l tile text a x → Call p l (BothLengths p tile text) text ReadOwn a x
+  read-call (ReadTold.refuses h) = refuses h
+  read-call (ReadTold.not-good h f) = goes-on h (fails f (refl, refl))
+  read-call (ReadTold.reads h g) = goes-on h (holds g (refl, refl))
+
+  -- so two outcomes of a read are the same
+  pub read-told-once : (a b : Said) (x y : List ℕ) → ReadTold p l tile text a x → ReadTold p l tile text b y → (a ≡ b) × (x ≡ y)
+  read-told-once a b x y t u =
+      call-once (read-call t) (read-call u) (λ S w. else-single (λ g. just-single done (textOf p tile)) (just-single (refused 5) text))
+
+-- repair: of a good tile Clean, and else by the first column that explains it, by the first row, or 5
+module _ (p l : ℕ) (tile : List ℕ) where
+  -- one of the lines f 0, f 1, .. explains it
+  abbrev Some : (ℕ → Line) → Type 0
+  Some f = (k : ℕ) × (y : List ℕ) × Explains p l (f k) tile y
+
+  -- the outcome by the first that does ..
+  data First (f : ℕ → Line) (say : ℕ → Said) : Said → List ℕ → Type 0 where
+    first : {k : ℕ} {y : List ℕ} → Explains p l (f k) tile y → ((j : ℕ) → j < k → Unexplained p l tile (f j)) → First f say (say k) y
+
+  -- .. is one: of two that are first neither comes before the other
+  first-single : (f : ℕ → Line) (say : ℕ → Said) → Slope p l → Single (First f say)
+  first-single f say S a b x y (first {k = j} e u) (first {k} d v) =
+      let q : j ≡ k = le-antisymm (by-contra j k (λ h. u k h y d)) (by-contra k j (λ h. v j h x e)) in
+      (ap say q, explains-once p l (f k) tile x y S (rw q at e) d)
+
+  -- its own outcomes
+  abbrev RepairOwn : Said → List ℕ → Type 0
+  RepairOwn =
+      Else (Good p l tile) (Just clean tile)
+      (Else (Some Column) (First Column column) (Else (Some Row) (First Row row) (Just (refused 5) tile)))
+
+  -- a repair, as such a call; where a line does not explain the tile it is not good
+  repair-call : {a : Said} {x : List ℕ} → RepairTold p l tile a x → Call p l (TileLength p tile) tile RepairOwn a x
+  repair-call (RepairTold.refuses h) = refuses h
+  repair-call (RepairTold.is-good h g) = goes-on h (holds g (refl, refl))
+  repair-call (RepairTold.by-column {c} {new} h f e u) = goes-on h (fails f (holds (c, new, e) (first e u)))
+  repair-call (RepairTold.by-row {r} {new} h f e u) =
+      goes-on h (fails (unexplained-hurt p l (Column 0) tile (admitted-well h .2) (f 0))
+      (fails (λ t. f (t .0) (t .1) (t .2)) (holds (r, new, e) (first e u))))
+  repair-call (RepairTold.by-none h f) =
+      goes-on h (fails (unexplained-hurt p l (Column 0) tile (admitted-well h .2) (f (Column 0)))
+      (fails (λ t. f (Column (t .0)) (t .1) (t .2)) (fails (λ t. f (Row (t .0)) (t .1) (t .2)) (refl, refl))))
+
+  -- so two outcomes of a repair are the same
+  pub repair-told-once : (a b : Said) (x y : List ℕ) → RepairTold p l tile a x → RepairTold p l tile b y → (a ≡ b) × (x ≡ y)
+  repair-told-once a b x y t u = call-once (repair-call t) (repair-call u) (λ S w.
+      else-single (λ g. just-single clean tile)
+      (else-single (λ e. first-single Column column S) (else-single (λ e. first-single Row row S) (just-single (refused 5) tile))))
+
+-- fill: 4 where the tile lacks a line, and else the filling, or 5
+module _ (p l : ℕ) (tile : List ℕ) (a b : Line) where
+  -- its own outcomes
+  abbrev FillOwn : Said → List ℕ → Type 0
+  FillOwn =
+      Else (Has p a × Has p b)
+      (Else ((y : List ℕ) × Fills p l a b tile y) (Only done (Fills p l a b tile)) (Just (refused 5) tile)) (Just (refused 4) tile)
+
+  -- a filling, as such a call
+  fill-call : {c : Said} {x : List ℕ} → FillTold p l tile a b c x → Call p l (TileLength p tile) tile FillOwn c x
+  fill-call (FillTold.refuses h) = refuses h
+  fill-call (FillTold.no-line h f) = goes-on h (fails f (refl, refl))
+  fill-call (FillTold.none h ha hb f) = goes-on h (holds (ha, hb) (fails (λ t. f (t .0) (t .1)) (refl, refl)))
+  fill-call (FillTold.fills {new} h ha hb f) = goes-on h (holds (ha, hb) (holds (new, f) (refl, f)))
+
+  -- so two outcomes of a filling are the same: there is one filling at most
+  pub fill-told-once : (c d : Said) (x y : List ℕ) → FillTold p l tile a b c x → FillTold p l tile a b d y → (c ≡ d) × (x ≡ y)
+  fill-told-once c d x y t u = call-once (fill-call t) (fill-call u) (λ S w.
+      else-single (λ h. else-single
+      (λ e. only-single done (Fills p l a b tile) (λ v z. filled-once p l a b tile v z S (inr (w .reach))))
+      (just-single (refused 5) tile)) (just-single (refused 4) tile))
+
+-- ---- the same of the enums that the calls answer
+
+-- one answer of write, read or fill says it ..
+outcome-said-once : (a b : Outcome) → outcomeSaid a ≡ outcomeSaid b → a ≡ b
+outcome-said-once outcome.Done outcome.Done e = refl
+outcome-said-once outcome.Done (outcome.Refused s) e = cc
+outcome-said-once (outcome.Refused r) outcome.Done e = cc
+outcome-said-once (outcome.Refused r) (outcome.Refused s) e = let n : numberOf r ≡ numberOf s = cc in ap outcome.Refused (number-once r s n)
+
+-- .. and one of repair
+repair-said-once : (a b : Repaired) → repairSaid a ≡ repairSaid b → a ≡ b
+repair-said-once repair.Clean repair.Clean e = refl
+repair-said-once repair.Clean (repair.Column d) e = cc
+repair-said-once repair.Clean (repair.Row s) e = cc
+repair-said-once repair.Clean (repair.Refused s) e = cc
+repair-said-once (repair.Column c) repair.Clean e = cc
+repair-said-once (repair.Column c) (repair.Column d) e = cc
+repair-said-once (repair.Column c) (repair.Row s) e = cc
+repair-said-once (repair.Column c) (repair.Refused s) e = cc
+repair-said-once (repair.Row r) repair.Clean e = cc
+repair-said-once (repair.Row r) (repair.Column d) e = cc
+repair-said-once (repair.Row r) (repair.Row s) e = cc
+repair-said-once (repair.Row r) (repair.Refused s) e = cc
+repair-said-once (repair.Refused r) repair.Clean e = cc
+repair-said-once (repair.Refused r) (repair.Column d) e = cc
+repair-said-once (repair.Refused r) (repair.Row s) e = cc
+repair-said-once (repair.Refused r) (repair.Refused s) e = let n : numberOf r ≡ numberOf s = cc in ap repair.Refused (number-once r s n)
+
+-- so where one outcome is allowed, one answer is right
+outcome-single : (R : Said → List ℕ → Type 0) → Single R → (a b : Outcome) (x y : List ℕ) → R (outcomeSaid a) x → R (outcomeSaid b) y
+    → (a ≡ b) × (x ≡ y)
+outcome-single R f a b x y t u = let e = f (outcomeSaid a) (outcomeSaid b) x y t u in (outcome-said-once a b (e .0), e .1)
+
+-- a judgement of a size, a slope and a length has one right answer
+pub judge-tile-once : (p l cells : ℕ) (a b : Judgement) → Admitted p l (cells ≡ tileLength p) (judgementSaid a) → Admitted p l (cells ≡ tileLength p) (judgementSaid b) → a ≡ b
+judge-tile-once p l cells a b t u = judgement-said-once a b (admitted-once p l (cells ≡ tileLength p) (judgementSaid a) (judgementSaid b) t u)
+
+-- a write has one right answer, and leaves one tile
+pub write-once : (p l : ℕ) (text tile : List ℕ) (a b : Outcome) (x y : List ℕ)
+    → WriteTold p l text tile (outcomeSaid a) x → WriteTold p l text tile (outcomeSaid b) y → (a ≡ b) × (x ≡ y)
+write-once p l text tile = outcome-single (WriteTold p l text tile) (write-told-once p l text tile)
+
+-- a read has one right answer, and leaves one text
+pub read-once : (p l : ℕ) (tile text : List ℕ) (a b : Outcome) (x y : List ℕ)
+    → ReadTold p l tile text (outcomeSaid a) x → ReadTold p l tile text (outcomeSaid b) y → (a ≡ b) × (x ≡ y)
+read-once p l tile text = outcome-single (ReadTold p l tile text) (read-told-once p l tile text)
+
+-- a repair has one right answer, and leaves one tile
+pub repair-once : (p l : ℕ) (tile : List ℕ) (a b : Repaired) (x y : List ℕ)
+    → RepairTold p l tile (repairSaid a) x → RepairTold p l tile (repairSaid b) y → (a ≡ b) × (x ≡ y)
+repair-once p l tile a b x y t u =
+    let e = repair-told-once p l tile (repairSaid a) (repairSaid b) x y t u in (repair-said-once a b (e .0), e .1)
+
+-- a filling of flagged lines has one right answer, and leaves one tile
+pub fill-once : (p l : ℕ) (tile : List ℕ) (a b : Line) (c d : Outcome) (x y : List ℕ)
+    → FillTold p l tile a b (outcomeSaid c) x → FillTold p l tile a b (outcomeSaid d) y → (c ≡ d) × (x ≡ y)
+fill-once p l tile a b = outcome-single (FillTold p l tile a b) (fill-told-once p l tile a b)

@@ -1,0 +1,227 @@
+-- The starred worked tiles 1 to 10 of document 01, as one list with a single claim (tile 11, whose sheet stands above this crate, joins it
+-- in `sheet/specs/Worked.antt`). The tiles are at p 5, l 2, written row by row; each claim is decided by a test that is computed, and the
+-- laws that the test is right. Assumes nothing.
+use mathlib.Core.Path.{_≡_, refl, sym, ap, _∙_}
+use mathlib.Core.List.{List, [], _∷_}
+use Prim.Native.Nat.{ℕ, _+_, _-_}
+use lib.ListN.{length, getD}
+use Rattle.xor.specs.Xor.{_⊕_}
+use Rattle.xor.specs.Sum.{xorBelow}
+use Rattle.code.specs.Tabulate.{tabulate}
+use Rattle.code.specs.Tile.{tileLength, place, cell, sum, Good, textLength, textFrom, textOf, Writes}
+use Rattle.code.specs.Test.{upTo}
+use Rattle.code.specs.Place.{text-length}
+use Rattle.code.specs.OneLine.{number}
+use Rattle.code.specs.declared.Line.{Line}
+use Rattle.code.specs.declared.Line.the-variants.{Row, Column}
+use Rattle.size.specs.Answer as size
+use Rattle.size.specs.Shams.{size-5, at-5-2}
+use Rattle.promise.specs.Answer.{Said, done, clean, column, row, refused}
+use Rattle.promise.specs.Calls.{Admitted, TileLength, WriteTold, ReadTold, RepairTold, FillTold}
+use Rattle.promise.specs.Admit.{admits}
+use Rattle.promise.specs.Once.{Single, write-told-once, read-told-once, repair-told-once, fill-told-once}
+use Rattle.promise.specs.Decide.{Test, never, so, both, equal, at-most, same, sumOf, good, common-is, not-good, outside, filling, explaining, none-of, none, no-line, uncrossed, no-filling, Each, each, numbered}
+
+-- ---- the tiles
+
+-- zeros
+abbrev pub zeros : List ℕ
+zeros = 0 ∷ 0 ∷ 0 ∷ 0 ∷ 0 ∷ 0 ∷ 0 ∷ 0 ∷ 0 ∷ 0 ∷ 0 ∷ 0 ∷ 0 ∷ 0 ∷ 0 ∷ 0 ∷ []
+
+-- 1. Text 1 0 / 0 0 / 0 0 / 0 0 writes 1 0 0 1 / 0 0 1 1 / 0 0 1 0 / 0 0 1 0; sums 0
+abbrev pub text-1 : List ℕ
+text-1 = 1 ∷ 0 ∷ 0 ∷ 0 ∷ 0 ∷ 0 ∷ 0 ∷ 0 ∷ []
+
+abbrev pub tile-1 : List ℕ
+tile-1 = 1 ∷ 0 ∷ 0 ∷ 1 ∷ 0 ∷ 0 ∷ 1 ∷ 1 ∷ 0 ∷ 0 ∷ 1 ∷ 0 ∷ 0 ∷ 0 ∷ 1 ∷ 0 ∷ []
+
+-- 2. Text 0 1 / 1 0 / 0 1 / 1 1 writes 0 1 1 1 / 1 0 0 1 / 0 1 1 0 / 1 1 1 1; sums 1 (the paper's example 2.1)
+abbrev pub text-2 : List ℕ
+text-2 = 0 ∷ 1 ∷ 1 ∷ 0 ∷ 0 ∷ 1 ∷ 1 ∷ 1 ∷ []
+
+abbrev pub tile-2 : List ℕ
+tile-2 = 0 ∷ 1 ∷ 1 ∷ 1 ∷ 1 ∷ 0 ∷ 0 ∷ 1 ∷ 0 ∷ 1 ∷ 1 ∷ 0 ∷ 1 ∷ 1 ∷ 1 ∷ 1 ∷ []
+
+-- 3. Text 1 2 / 2 0 / 0 2 / 2 2 writes 1 2 2 3 / 2 0 1 3 / 0 2 3 0 / 2 2 3 2; sums 2
+abbrev pub text-3 : List ℕ
+text-3 = 1 ∷ 2 ∷ 2 ∷ 0 ∷ 0 ∷ 2 ∷ 2 ∷ 2 ∷ []
+
+abbrev pub tile-3 : List ℕ
+tile-3 = 1 ∷ 2 ∷ 2 ∷ 3 ∷ 2 ∷ 0 ∷ 1 ∷ 3 ∷ 0 ∷ 2 ∷ 3 ∷ 0 ∷ 2 ∷ 2 ∷ 3 ∷ 2 ∷ []
+
+-- 4. Zeros but 1 at (2,3): repair gives zeros, column 3
+abbrev pub tile-4 : List ℕ
+tile-4 = 0 ∷ 0 ∷ 0 ∷ 0 ∷ 0 ∷ 0 ∷ 0 ∷ 0 ∷ 0 ∷ 0 ∷ 0 ∷ 1 ∷ 0 ∷ 0 ∷ 0 ∷ 0 ∷ []
+
+-- 5. Zeros but 1 at (0,0) and (1,0): zeros, column 0
+abbrev pub tile-5 : List ℕ
+tile-5 = 1 ∷ 0 ∷ 0 ∷ 0 ∷ 1 ∷ 0 ∷ 0 ∷ 0 ∷ 0 ∷ 0 ∷ 0 ∷ 0 ∷ 0 ∷ 0 ∷ 0 ∷ 0 ∷ []
+
+-- 6. Zeros but 1 at (0,0) and (0,1): zeros, row 0
+abbrev pub tile-6 : List ℕ
+tile-6 = 1 ∷ 1 ∷ 0 ∷ 0 ∷ 0 ∷ 0 ∷ 0 ∷ 0 ∷ 0 ∷ 0 ∷ 0 ∷ 0 ∷ 0 ∷ 0 ∷ 0 ∷ 0 ∷ []
+
+-- 7. Zeros but 1 at (0,0) and (1,2): refused 5
+abbrev pub tile-7 : List ℕ
+tile-7 = 1 ∷ 0 ∷ 0 ∷ 0 ∷ 0 ∷ 0 ∷ 1 ∷ 0 ∷ 0 ∷ 0 ∷ 0 ∷ 0 ∷ 0 ∷ 0 ∷ 0 ∷ 0 ∷ []
+
+-- 8. Zeros but 1 at (0,0) and (1,1): column 3, with 1 then also at (0,3), (1,3), (3,3)
+abbrev pub tile-8 : List ℕ
+tile-8 = 1 ∷ 0 ∷ 0 ∷ 0 ∷ 0 ∷ 1 ∷ 0 ∷ 0 ∷ 0 ∷ 0 ∷ 0 ∷ 0 ∷ 0 ∷ 0 ∷ 0 ∷ 0 ∷ []
+
+abbrev pub repaired-8 : List ℕ
+repaired-8 = 1 ∷ 0 ∷ 0 ∷ 1 ∷ 0 ∷ 1 ∷ 0 ∷ 1 ∷ 0 ∷ 0 ∷ 0 ∷ 0 ∷ 0 ∷ 0 ∷ 0 ∷ 1 ∷ []
+
+-- 9. Row 0 and column 0 flagged, elsewhere 1 at (1,1) only: 0 1 0 1 / 1 1 0 0 / 1 0 0 0 / 1 0 0 0
+abbrev pub tile-9 : List ℕ
+tile-9 = 0 ∷ 0 ∷ 0 ∷ 0 ∷ 0 ∷ 1 ∷ 0 ∷ 0 ∷ 0 ∷ 0 ∷ 0 ∷ 0 ∷ 0 ∷ 0 ∷ 0 ∷ 0 ∷ []
+
+abbrev pub filled-9 : List ℕ
+filled-9 = 0 ∷ 1 ∷ 0 ∷ 1 ∷ 1 ∷ 1 ∷ 0 ∷ 0 ∷ 1 ∷ 0 ∷ 0 ∷ 0 ∷ 1 ∷ 0 ∷ 0 ∷ 0 ∷ []
+
+-- 10. The same flags, elsewhere 1 at (2,3) only: refused 5
+abbrev pub tile-10 : List ℕ
+tile-10 = 0 ∷ 0 ∷ 0 ∷ 0 ∷ 0 ∷ 0 ∷ 0 ∷ 0 ∷ 0 ∷ 0 ∷ 0 ∷ 1 ∷ 0 ∷ 0 ∷ 0 ∷ 0 ∷ []
+
+-- tile 3 with its last byte changed
+abbrev pub changed-3 : List ℕ
+changed-3 = 1 ∷ 2 ∷ 2 ∷ 3 ∷ 2 ∷ 0 ∷ 1 ∷ 3 ∷ 0 ∷ 2 ∷ 3 ∷ 0 ∷ 2 ∷ 2 ∷ 3 ∷ 3 ∷ []
+
+-- text 1 alone, the checks left at 0
+abbrev pub copied-1 : List ℕ
+copied-1 = 1 ∷ 0 ∷ 0 ∷ 0 ∷ 0 ∷ 0 ∷ 0 ∷ 0 ∷ 0 ∷ 0 ∷ 0 ∷ 0 ∷ 0 ∷ 0 ∷ 0 ∷ 0 ∷ []
+
+-- tile 9 with other bytes in the flagged lines, which are ignored
+abbrev pub other-9 : List ℕ
+other-9 = 9 ∷ 8 ∷ 7 ∷ 6 ∷ 5 ∷ 1 ∷ 0 ∷ 0 ∷ 4 ∷ 0 ∷ 0 ∷ 0 ∷ 3 ∷ 0 ∷ 0 ∷ 0 ∷ []
+
+-- tile 2 with its first byte changed
+abbrev pub hurt-2 : List ℕ
+hurt-2 = 1 ∷ 1 ∷ 1 ∷ 1 ∷ 1 ∷ 0 ∷ 0 ∷ 1 ∷ 0 ∷ 1 ∷ 1 ∷ 0 ∷ 1 ∷ 1 ∷ 1 ∷ 1 ∷ []
+
+-- ---- the cases
+
+-- a case: a text writes a tile whose sums are all b; a tile is not good; a repair answers and leaves a tile; a filling of two lines does
+pub data Case : Type 0 where
+  writes : List ℕ → List ℕ → ℕ → Case
+  spoiled : List ℕ → Case
+  repairs : List ℕ → Said → List ℕ → Case
+  fills : List ℕ → Line → Line → Said → List ℕ → Case
+
+-- a call allows this outcome, and no other
+abbrev pub Exactly : {Answer : Type 0} → (Answer → List ℕ → Type 0) → Answer → List ℕ → Type 0
+Exactly {Answer} R s x = R s x × ((t : Answer) (y : List ℕ) → R t y → (t ≡ s) × (y ≡ x))
+
+-- what a case claims. A tile is written whatever the lent tile held, and a tile that is not good is refused whatever the lent text held
+abbrev pub Claim : Case → Type 0
+Claim (writes text tile b) =
+    ((lent : List ℕ) → length lent ≡ tileLength 5 → Exactly (WriteTold 5 2 text lent) done tile) × ((g : Good 5 2 tile) → g .common ≡ b)
+Claim (spoiled tile) = (Good 5 2 tile → ⊥) × ((page : List ℕ) → length page ≡ textLength 5 → Exactly (ReadTold 5 2 tile page) (refused 5) page)
+Claim (repairs tile said new) = Exactly (RepairTold 5 2 tile) said new
+Claim (fills tile a b said new) = Exactly (FillTold 5 2 tile a b) said new
+
+-- tiles 1 to 10
+abbrev pub cases : List Case
+cases =
+    writes text-1 tile-1 0
+    ∷ writes text-2 tile-2 1
+    ∷ writes text-3 tile-3 2
+    ∷ repairs tile-4 (column 3) zeros
+    ∷ repairs tile-5 (column 0) zeros
+    ∷ repairs tile-6 (row 0) zeros
+    ∷ repairs tile-7 (refused 5) tile-7
+    ∷ repairs tile-8 (column 3) repaired-8
+    ∷ fills tile-9 (Row 0) (Column 0) done filled-9
+    ∷ fills tile-10 (Row 0) (Column 0) (refused 5) tile-10
+    ∷ []
+
+-- and others: two tiles that are not good, two that are not hurt, one whose column is repaired though its sums are not zero, and tile 9
+-- again, with other bytes in the flagged lines
+abbrev pub others : List Case
+others =
+    spoiled changed-3
+    ∷ spoiled copied-1
+    ∷ repairs zeros clean zeros
+    ∷ repairs tile-2 clean tile-2
+    ∷ repairs hurt-2 (column 0) tile-2
+    ∷ fills other-9 (Row 0) (Column 0) done filled-9
+    ∷ []
+
+-- ---- the tests
+
+-- an outcome that is allowed is the only one, where one is allowed at most
+pub exactly : {Answer : Type 0} (R : Answer → List ℕ → Type 0) → Single R → (s : Answer) (x : List ℕ) → R s x → Exactly R s x
+exactly R once s x r = (r, λ t y q. once t s y x q r)
+
+-- what repair says and leaves, of a tile that is admitted
+unfoldable pub mends : (x : List ℕ) (s : Said) (y : List ℕ) → Test (Admitted 5 2 (TileLength 5 x) size.well → RepairTold 5 2 x s y)
+mends x done y = never
+mends x clean y = so (both (same y x) (good x)) (λ t h. rw (t .0) (RepairTold.is-good h (t .1)))
+mends x (column c) y =
+    so (both (not-good x) (both (explaining (Column c) x y) (none-of Column c x))) (λ t h.
+    RepairTold.by-column h (t .0) (t .1 .0) (t .1 .1 (t .0)))
+mends x (row r) y =
+    so (both (not-good x) (both (none Column (λ k. refl) x) (both (explaining (Row r) x y) (none-of Row r x)))) (λ t h.
+    RepairTold.by-row h (t .1 .0 (t .0)) (t .1 .1 .0) (t .1 .1 .1 (t .0)))
+mends x (refused n) y =
+    so (both (equal n 5) (both (same y x) (both (not-good x) (no-line x)))) (λ t h.
+    rw (t .0, t .1 .0) (RepairTold.by-none h (t .1 .1 .1 (t .1 .1 .0))))
+
+-- what fill says and leaves, of a tile that is admitted
+unfoldable pub filled : (x : List ℕ) (a b : Line) (s : Said) (y : List ℕ) → Test (Admitted 5 2 (TileLength 5 x) size.well → FillTold 5 2 x a b s y)
+filled x a b done y =
+    so (both (at-most (number a + 2) 5) (both (at-most (number b + 2) 5) (filling a b x y))) (λ t h. FillTold.fills h (t .0) (t .1 .0) (t .1 .1))
+filled x a b (refused n) y =
+    so (both (equal n 5) (both (same y x) (both (at-most (number a + 2) 5) (both (at-most (number b + 2) 5) (no-filling a b x))))) (λ t h.
+    let lines = t .1 .1 in
+    rw (t .0, t .1 .0) (FillTold.none h (lines .0) (lines .1 .0) (lines .1 .1 (lines .0) (lines .1 .0))))
+filled x a b clean y = never
+filled x a b (column c) y = never
+filled x a b (row r) y = never
+
+-- a tile is admitted if it has the right length
+unfoldable pub admitted-tile : {A : Type 0} (x : List ℕ) → Test (Admitted 5 2 (TileLength 5 x) size.well → A) → Test A
+admitted-tile x s = so (both (equal (length x) (tileLength 5)) s) (λ t. t .1 (admits size-5 at-5-2 (t .0)))
+
+-- the tile is good and has the text
+unfoldable pub writing : (text tile : List ℕ) → Test (Writes 5 2 text tile)
+writing text tile =
+    so (both (equal (length tile) (tileLength 5)) (both (good tile) (same (textOf 5 tile) text))) (λ t.
+    record { size = t .0; good = t .1 .0; has = t .1 .1 })
+
+-- the test of a case
+unfoldable pub tested : (c : Case) → Test (Claim c)
+tested (writes text tile b) = so (both (writing text tile) (equal (sumOf tile 1 0) b)) (λ t. (
+  λ lent e. exactly (WriteTold 5 2 text lent) (write-told-once 5 2 text lent) done tile
+      (WriteTold.writes (admits size-5 at-5-2 (e, sym (ap length (t .0 .has)) ∙ text-length 5 tile)) (t .0)),
+  λ g. sym (common-is tile g) ∙ t .1,
+))
+tested (spoiled tile) = so (both (equal (length tile) (tileLength 5)) (not-good tile)) (λ t. (
+  t .1,
+  λ page e. exactly (ReadTold 5 2 tile page) (read-told-once 5 2 tile page) (refused 5) page (ReadTold.not-good (admits size-5 at-5-2 (t .0, e)) (t .1)),
+))
+tested (repairs tile said new) =
+    so (admitted-tile tile (mends tile said new)) (exactly (RepairTold 5 2 tile) (repair-told-once 5 2 tile) said new)
+tested (fills tile a b said new) =
+    so (admitted-tile tile (filled tile a b said new)) (exactly (FillTold 5 2 tile a b) (fill-told-once 5 2 tile a b) said new)
+
+-- what the tests show
+computed : Each Claim cases × Each Claim others
+unfolding each tested mends filled admitted-tile writing same good not-good outside filling none-of none no-line uncrossed no-filling upTo sum cell place textFrom textOf tabulate xorBelow _⊕_
+computed = both (each Claim tested cases) (each Claim tested others) .shows tt
+
+-- THE WORKED TILES: every claim of the list holds
+pub worked : Each Claim cases
+worked = computed .0
+
+-- and every claim of the others
+pub others-worked : Each Claim others
+others-worked = computed .1
+
+-- the claim of a case by its number, as document 01 numbers the tiles
+pub claimed : (k : ℕ) → Claim (getD cases (k - 1) (writes text-1 tile-1 0))
+claimed k = numbered Claim (writes text-1 tile-1 0) (worked .0) cases worked (k - 1)
+
+-- and of the others, from 1 in the order in which they stand above
+pub other-claimed : (k : ℕ) → Claim (getD others (k - 1) (spoiled changed-3))
+other-claimed k = numbered Claim (spoiled changed-3) (others-worked .0) others others-worked (k - 1)

@@ -1,0 +1,54 @@
+// What the tile calls promise, in specs/; what they answer; and the judgement that comes first in each. The calls themselves have rooms of
+// their own, and users find all of them in the crate `tile`.
+use size::Judgement;
+use size::Refusal;
+ghost use mathlib.Core.Path.{_≡_};
+ghost use Rattle.code.specs.Tile.{tileLength, textLength};
+ghost use Rattle.size.specs.Answer.{judgementSaid};
+ghost use Rattle.promise.specs.Calls.{Admitted};
+
+// What write, read and fill answer.
+pub enum Outcome {
+    Done,
+    Refused(Refusal),
+}
+
+// What repair answers: nothing was hurt, or the column or the row that it repaired.
+pub enum Repaired {
+    Clean,
+    Column(usize),
+    Row(usize),
+    Refused(Refusal),
+}
+
+// Judges the size, the slope and the tile's length: refusals 1, 2 and 3, in that order.
+pub fn judge_tile(p: usize, l: usize, cells: usize) -> Judgement
+    ensures { λ r. ⌜ Admitted p l (cells ≡ tileLength p) (judgementSaid r) ⌝ }
+{
+    match size::judge(p, l) {
+        Judgement::Refused(refusal) => Judgement::Refused(refusal),
+        Judgement::Taken => {
+            if cells == (p - 1) * (p - 1) {
+                Judgement::Taken
+            } else {
+                Judgement::Refused(Refusal::BadLength)
+            }
+        }
+    }
+}
+
+// Judges the text's length too.
+pub fn judge_text(p: usize, l: usize, cells: usize, letters: usize) -> Judgement
+    ensures { λ r. ⌜ Admitted p l ((cells ≡ tileLength p) × (letters ≡ textLength p)) (judgementSaid r) ⌝ }
+{
+    match judge_tile(p, l, cells) {
+        Judgement::Refused(refusal) => Judgement::Refused(refusal),
+        Judgement::Taken => {
+            if letters == (p - 1) * (p - 3) {
+                Judgement::Taken
+            } else {
+                Judgement::Refused(Refusal::BadLength)
+            }
+        }
+    }
+}

@@ -1,0 +1,75 @@
+// A line of the script: its columns, and its bytes. Nothing is asked of the signs; others than digits are read as some digit.
+use code::Line;
+ghost use Prim.Native.Nat.{_+_, _≤_, _<_};
+ghost use lib.ListN.{length};
+
+// How many columns stand before the bytes. The last of them has the colon by which a question is known.
+pub const COLUMNS: usize = 24;
+
+// What a question tells a call: the first letter of its name, two numbers, and two lines of a tile.
+pub struct Told {
+    pub name: u8,
+    pub p: usize,
+    pub l: usize,
+    pub first: Line,
+    pub second: Line,
+}
+
+pub fn numbers(line: &[u8]) -> Told
+    requires { ⌜ 24 ≤ length (now line) ⌝ }
+{
+    Told {
+        name: line[0],
+        p: number(line, 8),
+        l: number(line, 12),
+        first: flagged(line, 16),
+        second: flagged(line, 20),
+    }
+}
+
+// The decimal number in three columns. A space counts as 0.
+fn number(line: &[u8], at: usize) -> usize
+    requires { ⌜ at + 2 < length (now line) ⌝ }
+{
+    digit(line[at]) * 100 + digit(line[at + 1]) * 10 + digit(line[at + 2])
+}
+
+fn digit(sign: u8) -> usize
+    ensures { λ r. ⌜ r < 16 ⌝ }
+{
+    (sign % 16) as usize
+}
+
+// The line of a tile in three columns: r or c, and its number. Capital letters count down from the largest number.
+fn flagged(line: &[u8], at: usize) -> Line
+    requires { ⌜ at + 2 < length (now line) ⌝ }
+{
+    let n = digit(line[at + 1]) * 10 + digit(line[at + 2]);
+    match line[at] {
+        b'r' => Line::Row(n),
+        b'R' => Line::Row(usize::MAX - n),
+        b'C' => Line::Column(usize::MAX - n),
+        _ => Line::Column(n),
+    }
+}
+
+// Lays the bytes of a text into `out`, and gives the part that holds them. Each has two hexadecimal digits, and one sign before them.
+pub fn lay<'a>(text: &[u8], out: &'a mut [u8]) -> &'a mut [u8] {
+    let mut n = 0;
+    while n < out.len() {
+        if text.len() / 3 <= n {
+            return &mut out[..n];
+        }
+        let at = 3 * n;
+        out[n] = hexadecimal(text[at + 1]) * 16 + hexadecimal(text[at + 2]);
+        n += 1;
+    }
+    &mut out[..n]
+}
+
+// A hexadecimal digit. Of the letters a to f the last four bits are 1 to 6, and the bits above them 6.
+fn hexadecimal(sign: u8) -> u8
+    ensures { λ r. ⌜ r < 16 ⌝ }
+{
+    (sign % 16 + sign / 64 * 9) % 16
+}

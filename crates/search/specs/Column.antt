@@ -1,0 +1,47 @@
+-- The search for a column along which the sums agree, and the sums along a line. Assumes nothing.
+use mathlib.Core.Path.{_≡_, ap, _∙_}
+use mathlib.Core.Logic.{⊎-elim}
+use Prim.Native.Nat.{ℕ, _+_, _-_, _*_, _%_, _≤_, _<_}
+use native.Mathlib.Nat.{mod-add-mod, eq-or-lt-of-le}
+use native.Mathlib.Omega.{arith}
+use Rattle.xor.specs.Xor.{_⊕_}
+use Rattle.residue.specs.Remainder.{same}
+use Rattle.code.specs.Tile.{line}
+use Rattle.code.specs.OneLine.{through, Agree, shifted}
+use Rattle.code.specs.declared.Line.{Line}
+use Rattle.code.specs.declared.Line.the-variants.{Column}
+use Rattle.walk.specs.Sums.{Stepped}
+
+-- c is the first column from `from` to `end` along which the sums agree, or `end` where there is none
+pub record FirstColumn (p l : ℕ) (A B : ℕ → ℕ) (from end c : ℕ) : Type 0 where
+  pub low : from ≤ c
+  pub high : c ≤ end
+  pub agrees : c < end → Agree p l A B (Column c)
+  pub none : (k : ℕ) → from ≤ k → k < c → Agree p l A B (Column k) → ⊥
+
+-- x holds the sums of the slope-1 lines through the cells of a line
+abbrev pub Along : ℕ → (ℕ → ℕ) → Line → (ℕ → ℕ) → Type 0
+Along p A a x = (k : ℕ) → k < p → x k ≡ A (through p 1 a k)
+
+-- y is x with the byte at the added zero taken off
+abbrev pub TakenOff : ℕ → (ℕ → ℕ) → (ℕ → ℕ) → Type 0
+TakenOff p x y = (k : ℕ) → k < p → y k ≡ x k ⊕ x (p - 1)
+
+-- x is the line's change
+abbrev pub Shifted : ℕ → (ℕ → ℕ) → Line → (ℕ → ℕ) → Type 0
+Shifted p A a x = (k : ℕ) → k < p → x k ≡ shifted p A a k
+
+-- ---- the search
+
+-- the slope-s line through the first cell of column c, and through the cell after cell i
+pub first-cell : (p s c : ℕ) → s * c % p ≡ line p s 0 c
+first-cell p s c = same p (omega arith)
+
+pub next-cell : (p s i c t r : ℕ) → t ≡ line p s i c → Stepped p t 1 r → r ≡ line p s (i + 1) c
+next-cell p s i c t r e h = h .is ∙ ap (λ (x : ℕ). (x + 1) % p) e ∙ mod-add-mod (i + s * c) p 1 ∙ same p (omega arith)
+
+-- no column below c agrees, and c does not: then none below c + 1 does
+pub given-up : (p l : ℕ) (A B : ℕ → ℕ) (from c : ℕ) → ((k : ℕ) → from ≤ k → k < c → Agree p l A B (Column k) → ⊥) → (Agree p l A B (Column c) → ⊥)
+    → (k : ℕ) → from ≤ k → k < c + 1 → Agree p l A B (Column k) → ⊥
+given-up p l A B from c none d k h q g =
+    let le : k ≤ c = omega arith in ⊎-elim (λ e. d (rw e at g)) (λ lt. none k h (omega arith) g) (eq-or-lt-of-le le)

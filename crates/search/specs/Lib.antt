@@ -1,0 +1,3 @@
+-- What the search for a hurt line promises, and the laws behind its loops.
+pub mod Column
+pub mod Hurt

@@ -1,0 +1,2 @@
+-- How a writing ends.
+pub mod Written

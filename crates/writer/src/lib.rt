@@ -1,0 +1,44 @@
+// Writing a text as a tile, and reading it.
+use cells::text;
+use chain::checks;
+use promise::Outcome;
+use promise::judge_text;
+use size::Judgement;
+use size::Refusal;
+use walk::sums::is_good;
+use walk::sums::line_sums;
+ghost use Rattle.promise.specs.Answer.{outcomeSaid};
+ghost use Rattle.promise.specs.Calls.{WriteTold, ReadTold};
+
+// Writes the one good tile with that text: lays the text into its columns and fills the two check columns.
+pub fn write(p: usize, l: usize, text: &[u8], tile: &mut [u8]) -> Outcome
+    ensures { λ r. ⌜ WriteTold p l (now (text .entry)) (now (tile .entry)) (outcomeSaid r) (now (tile .exit)) ⌝ }
+{
+    match judge_text(p, l, tile.len(), text.len()) {
+        Judgement::Refused(refusal) => Outcome::Refused(refusal),
+        Judgement::Taken => {
+            text::lay(p, text, tile);
+            let a = line_sums(p, 1, tile);
+            let b = line_sums(p, l, tile);
+            checks::settle(p, l, &a, &b, tile);
+            Outcome::Done
+        }
+    }
+}
+
+// Reads the text of a good tile.
+pub fn read(p: usize, l: usize, tile: &[u8], text: &mut [u8]) -> Outcome
+    ensures { λ r. ⌜ ReadTold p l (now (tile .entry)) (now (text .entry)) (outcomeSaid r) (now (text .exit)) ⌝ }
+{
+    match judge_text(p, l, tile.len(), text.len()) {
+        Judgement::Refused(refusal) => Outcome::Refused(refusal),
+        Judgement::Taken => {
+            if is_good(p, l, tile) {
+                text::take(p, tile, text);
+                Outcome::Done
+            } else {
+                Outcome::Refused(Refusal::Damaged)
+            }
+        }
+    }
+}

@@ -1,0 +1,116 @@
+"""The script of the program `worked`, and what has to be answered to each of its questions. The script says at its top how it is read. The
+answers come from the rules: of tiles from tests/expected/tile.py, of sheets, sizes and reels from the files beside it."""
+
+from struct import unpack_from
+from typing import NamedTuple
+
+from expected import reel as reels
+from expected.sheet import correct
+from expected.sizes import HOUSE, is_size, verdict
+from expected.tile import fill, read, repair, sums, tile_length, write
+
+COLON = 23  # the column that tells a question
+LOST = 0xFF  # what a byte that is lost lies there as
+NUMBERS = 2**64  # places are reckoned modulo this
+
+
+class Question(NamedTuple):
+    """A question: its name, two numbers, two lines, the bytes that the call may change and those that it only reads."""
+
+    name: str
+    p: int
+    l: int
+    lines: tuple
+    held: list
+    lent: list
+
+
+def number(text):
+    """A number, or nothing, in three columns."""
+    return int(text) if text.strip() else 0
+
+
+def flag(text):
+    """A row or a column in three columns. Capital letters count down from the largest number."""
+    kind = {"r": "row", "c": "column"}[text[0].lower()]
+    return kind, NUMBERS - 1 - int(text[1:]) if text[0].isupper() else int(text[1:])
+
+
+def parsed(text):
+    """Bytes, each of two hexadecimal digits or two question marks, parted by spaces and strokes."""
+    return [LOST if byte == "??" else bytes.fromhex(byte)[0] for byte in text.replace("/", " ").split()]
+
+
+def question(line):
+    """The question that a line asks, or None for a comment."""
+    if line[COLON : COLON + 1] != ":":
+        assert not line or line.startswith("#"), f"neither a question nor a comment: {line}"
+        return None
+    name, p, l, first, second = line[:8].strip(), line[8:11], line[12:15], line[16:19], line[20:23]
+    held, _, lent = line[COLON + 1 :].partition(":")
+    lines = (flag(first), flag(second)) if name == "fill" else ()
+    return Question(name, number(p), number(l), lines, parsed(held), parsed(lent))
+
+
+def listed(data):
+    """Bytes as the program writes them."""
+    return ":" + "".join(f" {byte:02x}" for byte in data)
+
+
+def found(reel, at):
+    """What stands at a place of a reel, and the place behind it: where no tile stands, the place itself."""
+    if at >= len(reel):
+        return "end", at
+    no = reels.refusal(reel, at)
+    if no:
+        return f"refused {no} at {at}", at
+    _, p, l, number = unpack_from(reels.LAYOUT, reel, at)
+    start = at + reels.HEADER
+    return f"tile {number} {p} {l} at {start}", start + tile_length(p)
+
+
+def at_place(reel, at):
+    """All that is asked for at a place. The tile's bytes lie between its header and the place behind it; without a tile there are none."""
+    here, after = found(reel, at)
+    rest = reel[after:]
+    second, _ = found(reel, found(reel, 0)[1])
+    told = f"{here} after {after} rest {len(rest)} {found(rest, 0)[0]} second {second}"
+    return told + listed(reel[at + reels.HEADER : after])
+
+
+def answered(asked):
+    """What a question is answered, and the bytes that the call leaves."""
+    name, p, l, lines, held, lent = asked
+    if name == "write":
+        answer, left = write(p, l, lent, held)
+    elif name == "read":
+        answer, left = read(p, l, lent, held)
+    elif name == "mend":
+        answer, left = repair(p, l, held)
+    elif name == "fill":
+        answer, left = fill(p, l, held, *lines)
+    elif name == "correct":
+        answer, left = correct(p, l, held, lent)
+    elif name == "house":
+        answer, left = f"slope {HOUSE[p]}" if is_size(p) else "refused 1", held
+    elif name == "judge":
+        answer, left = verdict(p, l), held
+    elif name == "sums":
+        answer, left = "sums" + listed(sums(p, l, held)), held
+    else:
+        assert name == "place", f"no such question: {name}"
+        answer, left = at_place(bytes(held), (p - l) % NUMBERS), held
+    return answer, left
+
+
+def run(script):
+    """All that the program has to print for the script; and with each question its answer and the bytes that the call leaves."""
+    printed, asked = [], []
+    for line in script.splitlines():
+        printed.append(f"{line}\n")
+        one = question(line)
+        if one:
+            answer, left = answered(one)
+            asked.append((one, answer, left))
+            printed.append(f"  {answer}{listed(left)}\n")
+    return "".join(printed), asked
