@@ -1,4 +1,4 @@
--- The starred worked tiles 1 to 11 of document 01, as one list with a single claim: 1 to 10 as the crate `tile` has them, and 11, which has
+-- The starred worked tiles 1 to 11 of document 01, as one list with a single claim: 1 to 10 as the crate `promise` has them, and 11, which has
 -- a sheet. The tiles are at p 5, l 2, written row by row; what is claimed of 11 is decided by a test that is computed, and by the laws that
 -- the test is right. Assumes nothing.
 use mathlib.Core.List.{List, [], _∷_}

@@ -1,5 +1,5 @@
 // The walk of a tile: the sums of its lines, and whether all are one. It asks that the size is judged and the length right; the
-// crate `tile` sees to that.
+// tile calls see to that.
 pub mod index;
 pub mod sums;
 pub mod turn;
