@@ -14,7 +14,7 @@ use borrow.Author.Tests.{lt-ltb, ltb-true}
 use Rattle.xor.specs.Xor.{_⊕_, self, eq-of-zero}
 use Rattle.xor.specs.Sum.{keep}
 use Rattle.residue.specs.Power.{ReachesAll}
-use Rattle.code.specs.Size.{Size, Allowed}
+use Rattle.residue.specs.Size.{Size, Allowed}
 use Rattle.code.specs.Slope.{Slope, allowed-slope, slope-pos, slope-inverse}
 use Rattle.code.specs.Tile.{Cells, tileLength, cell, OneSum, Good, On, EqualOutsideBoth}
 use Rattle.code.specs.Sums.{Padded, one-sum-plus}

@@ -1,11 +1,9 @@
--- The tile code: what a reader must believe (`Size`, `Tile`), and the paper's theorems, proved from that.
+-- The tile code: what a reader must believe (`Says`, `Tile`), and the paper's theorems, proved from that.
 pub mod Says
-pub mod Size
 pub mod Slope
 pub mod Tabulate
 pub mod Held
 pub mod Tile
-pub mod Test
 pub mod Sums
 pub mod Place
 pub mod Good

@@ -5,7 +5,7 @@ use native.Mathlib.Omega.{arith}
 use Rattle.residue.specs.Remainder.{below-pos}
 use Rattle.residue.specs.Prime.{Prime, inverse}
 use Rattle.residue.specs.Power.{inverse-between}
-use Rattle.code.specs.Size.{Size, Allowed}
+use Rattle.residue.specs.Size.{Size, Allowed}
 
 -- p is prime, and l is from 2 to p-2
 pub record Slope (p l : ℕ) : Type 0 where

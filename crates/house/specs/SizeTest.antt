@@ -4,8 +4,8 @@ use mathlib.Core.Bool.{Bool, _&&_, not}
 use Prim.Native.Nat.{ℕ, _%_, _≤_, _<_}
 use native.Mathlib.Omega.{arith}
 use lib.Dec.{T, T-not, not-T, leb, eqb, leb→le, le→leb, eqb→eq}
-use Rattle.code.specs.Size.{Size}
-use Rattle.code.specs.Test.{upTo, up-at, at-up, and-left, and-right, and-both, imp, imp-on, to-imp}
+use Rattle.residue.specs.Size.{Size}
+use Rattle.residue.specs.Test.{upTo, up-at, at-up, and-left, and-right, and-both, imp, imp-on, to-imp}
 
 -- d is below 2, or does not divide p
 abbrev whole : ℕ → ℕ → Bool

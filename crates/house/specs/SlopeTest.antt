@@ -10,8 +10,8 @@ use lib.Dec.{T, T-not, not-T, leb, eqb, leb→le, le→leb, eqb→eq}
 use Rattle.residue.specs.Prime.{Prime}
 use Rattle.residue.specs.Remainder.{below-pos}
 use Rattle.residue.specs.Power.{no-return-reaches, reaches-no-return, first-power, next-power}
-use Rattle.code.specs.Size.{Allowed}
-use Rattle.code.specs.Test.{and-left, and-right, and-both}
+use Rattle.residue.specs.Size.{Allowed}
+use Rattle.residue.specs.Test.{and-left, and-right, and-both}
 
 -- none of n numbers from x on, each l times the one before modulo p, is 1
 unfoldable pub clear : ℕ → ℕ → ℕ → ℕ → Bool

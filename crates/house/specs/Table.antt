@@ -8,8 +8,8 @@ use native.Mathlib.Nat.{le-of-suc-le-suc, not-suc-le-zero, zero-lt-suc}
 use native.Mathlib.Omega.{arith}
 use lib.Dec.{T, T-not, not-T, eqb, eqb→eq}
 use lib.ListN.{length, getD}
-use Rattle.code.specs.Size.{Size}
-use Rattle.code.specs.Test.{upTo, up-at, and-left, and-right, and-both, imp, imp-on}
+use Rattle.residue.specs.Size.{Size}
+use Rattle.residue.specs.Test.{upTo, up-at, and-left, and-right, and-both, imp, imp-on}
 use Rattle.house.specs.House.{HouseSlope, entryAt, HouseEntry, HouseTable}
 use Rattle.house.specs.SizeTest.{sizeOk, size-sound, size-complete}
 use Rattle.house.specs.SlopeTest.{slopeOk, slope-sound, slope-complete}

@@ -6,7 +6,7 @@ use native.Mathlib.Omega.{arith}
 use Rattle.xor.specs.Xor.{_⊕_}
 use Rattle.xor.specs.Sum.{xorBelow}
 use Rattle.code.specs.Tile.{place, cell, sum}
-use Rattle.code.specs.Test.{upTo}
+use Rattle.residue.specs.Test.{upTo}
 use Rattle.promise.specs.Answer.{clean, column, row, refused}
 use Rattle.promise.specs.Decide.{both, same, good, not-good, outside, filling, none-of}
 use Rattle.promise.specs.Worked.{Claim, repairs, zeros, mends, admitted-tile, tested}

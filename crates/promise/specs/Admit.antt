@@ -2,7 +2,7 @@
 -- Assumes nothing.
 use mathlib.Core.Path.{_≡_, refl}
 use Prim.Native.Nat.{ℕ}
-use Rattle.code.specs.Size.{Size, Allowed}
+use Rattle.residue.specs.Size.{Size, Allowed}
 use Rattle.code.specs.Slope.{Slope, allowed-slope}
 use Rattle.size.specs.Answer as size
 use Rattle.size.specs.Told.{judged-well, judged-no}

@@ -10,7 +10,7 @@ use lib.Dec.{T, T-not, not-T, eqb, eqb→eq, eqb-refl, leb, leb→le}
 use lib.ListN.{length, getD}
 use Rattle.code.specs.Slope.{Slope, allowed-slope}
 use Rattle.code.specs.Tile.{tileLength, cell, line, sum, Good, On, EqualOutsideBoth, Fills}
-use Rattle.code.specs.Test.{and-left, and-right, and-both, imp, imp-on, upTo, up-at, at-up}
+use Rattle.residue.specs.Test.{and-left, and-right, and-both, imp, imp-on, upTo, up-at, at-up}
 use Rattle.code.specs.OneLine.{number, through, Agree}
 use Rattle.code.specs.Filling.{crossing-agrees, fills-either}
 use Rattle.code.specs.declared.Line.{Line}

@@ -5,7 +5,7 @@ use mathlib.Core.List.{List}
 use Prim.Native.Nat.{ℕ, _<_}
 use native.Mathlib.Nat.{le-antisymm}
 use native.Mathlib.Omega.{by-contra}
-use Rattle.code.specs.Size.{Size, Allowed}
+use Rattle.residue.specs.Size.{Size, Allowed}
 use Rattle.code.specs.Slope.{Slope, allowed-slope}
 use Rattle.code.specs.Tile.{tileLength, Good, textOf, Writes, Fills}
 use Rattle.code.specs.Filling.{filled-once}

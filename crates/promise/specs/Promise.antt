@@ -6,7 +6,7 @@ use mathlib.Core.List.{List}
 use Prim.Native.Nat.{ℕ, _+_, _-_, _≤_, _<_}
 use native.Mathlib.Omega.{arith}
 use lib.ListN.{length}
-use Rattle.code.specs.Size.{Size, Allowed}
+use Rattle.residue.specs.Size.{Size, Allowed}
 use Rattle.code.specs.Slope.{allowed-slope}
 use Rattle.code.specs.Tile.{tileLength, cell, textLength, Good, textOf, On, EqualOutside, EqualOutsideBoth, Fills}
 use Rattle.code.specs.OneLine.{number}

@@ -9,7 +9,7 @@ use Rattle.xor.specs.Xor.{_⊕_}
 use Rattle.xor.specs.Sum.{xorBelow}
 use Rattle.code.specs.Tabulate.{tabulate}
 use Rattle.code.specs.Tile.{tileLength, place, cell, sum, Good, textLength, textFrom, textOf, Writes}
-use Rattle.code.specs.Test.{upTo}
+use Rattle.residue.specs.Test.{upTo}
 use Rattle.code.specs.Place.{text-length}
 use Rattle.code.specs.OneLine.{number}
 use Rattle.code.specs.declared.Line.{Line}

@@ -6,7 +6,7 @@ use native.Mathlib.Omega.{arith}
 use lib.ListN.{length, drop, length-drop, drop-of-length-le}
 use lib.Seq.{length-take-le}
 use denote.Ref.{RefT, now}
-use Rattle.code.specs.Size.{Size, Allowed}
+use Rattle.residue.specs.Size.{Size, Allowed}
 use Rattle.code.specs.Tile.{tileLength}
 use Rattle.reel.specs.Answer.{Said, tile, end, NoTile}
 use Rattle.reel.specs.Calls.{NextTold, ends, AfterTold, PartOf, HandsBack, BytesTold, RestTold}

@@ -4,7 +4,7 @@ use mathlib.Core.Path.{_≡_}
 use mathlib.Core.List.{List, [], _∷_, _++_}
 use Prim.Native.Nat.{ℕ, _+_}
 use lib.ListN.{length, take, drop}
-use Rattle.code.specs.Size.{Size, Allowed}
+use Rattle.residue.specs.Size.{Size, Allowed}
 use Rattle.code.specs.Tile.{tileLength}
 use Rattle.reel.specs.Reel.{Marked, sizeOf, slopeOf, numberOf, bytesAt}
 use Rattle.reel.specs.Answer.{Said, tile}

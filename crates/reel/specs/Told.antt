@@ -7,7 +7,7 @@ use lib.Dec.{T, eqb, ltb, lit<}
 use lib.ListN.{length, getD, drop, length-drop}
 use lib.Seq.{take-all}
 use denote.Ref.{RefT, now}
-use Rattle.code.specs.Size.{Size, Allowed}
+use Rattle.residue.specs.Size.{Size, Allowed}
 use Rattle.code.specs.Tile.{tileLength}
 use Rattle.record.specs.Number.{bigEndian, bigEndianLong}
 use Rattle.code.specs.Says.{Says, says-equal}

@@ -5,7 +5,7 @@ pub mod reader;
 use size::Judgement;
 use size::Refusal;
 ghost use mathlib.Core.Path.{_≡_};
-ghost use Rattle.code.specs.Size.{Size};
+ghost use Rattle.residue.specs.Size.{Size};
 ghost use Rattle.code.specs.Tile.{tileLength};
 ghost use Rattle.code.specs.Says.{Says};
 ghost use Rattle.reel.specs.Reel.{HeaderWhole, Marked, sizeOf, slopeOf, numberOf};

@@ -1,5 +1,7 @@
--- Remainders modulo p, and what more holds where p is prime: the arithmetic behind lines and slopes.
+-- Remainders modulo p, and what more holds where p is prime: the arithmetic behind lines and slopes; and which sizes and slopes there are.
 pub mod Remainder
 pub mod Prime
 pub mod Pigeon
 pub mod Power
+pub mod Size
+pub mod Test

@@ -7,7 +7,7 @@ use Prim.Native.Nat.{ℕ, _-_, _*_, _<_}
 use native.Mathlib.Omega.{arith}
 use lib.ListN.{length}
 use Rattle.xor.specs.Xor.{_⊕_, zero-r}
-use Rattle.code.specs.Size.{Size, Allowed}
+use Rattle.residue.specs.Size.{Size, Allowed}
 use Rattle.code.specs.Slope.{allowed-slope}
 use Rattle.code.specs.Tile.{tileLength, cell, Good, textLength, textOf, Writes, xored}
 use Rattle.code.specs.Place.{cell-padded, textByte, text-length, text-at}

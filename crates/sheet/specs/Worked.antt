@@ -8,7 +8,7 @@ use Rattle.xor.specs.Xor.{_⊕_}
 use Rattle.xor.specs.Sum.{xorBelow}
 use Rattle.code.specs.Tabulate.{tabulate}
 use Rattle.code.specs.Tile.{tileLength, place, cell, sum, textFrom, textOf, Writes, xored}
-use Rattle.code.specs.Test.{upTo}
+use Rattle.residue.specs.Test.{upTo}
 use Rattle.size.specs.Shams.{size-5, at-5-2}
 use Rattle.promise.specs.Answer as answer
 use Rattle.promise.specs.Calls.{RepairTold}

@@ -1,6 +1,6 @@
 -- WHAT A READER MUST BELIEVE: what the size and slope calls promise, in the words of document 01. Assumes nothing.
 use Prim.Native.Nat.{ℕ}
-use Rattle.code.specs.Size.{Size, Allowed}
+use Rattle.residue.specs.Size.{Size, Allowed}
 use Rattle.house.specs.House.{HouseSlope}
 use Rattle.size.specs.Refusal.{numberOf}
 use Rattle.size.specs.declared.House.{House}

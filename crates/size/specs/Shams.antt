@@ -3,8 +3,8 @@ use mathlib.Core.Path.{_≡_}
 use mathlib.Core.Bool.{true, false}
 use Prim.Native.Nat.{ℕ}
 use native.Mathlib.Omega.{arith}
-use Rattle.code.specs.Size.{Size, Allowed}
-use Rattle.code.specs.Test.{upTo}
+use Rattle.residue.specs.Size.{Size, Allowed}
+use Rattle.residue.specs.Test.{upTo}
 use Rattle.code.specs.Says.{Says}
 use Rattle.size.specs.Answer.{slope, well, refused, HouseTold, given, Judged, no-slope}
 use Rattle.size.specs.Refusal.{numberOf}

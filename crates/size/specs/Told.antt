@@ -1,6 +1,6 @@
 -- What an answer tells of the size and the slope that were asked about. Assumes nothing.
 use Prim.Native.Nat.{ℕ}
-use Rattle.code.specs.Size.{Size, Allowed}
+use Rattle.residue.specs.Size.{Size, Allowed}
 use Rattle.size.specs.Answer.{slope, well, refused, HouseTold, given, no-size, Judged, taken, no-slope}
 
 -- what is given a house slope is a size, and what is refused one is none

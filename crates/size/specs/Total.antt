@@ -3,7 +3,7 @@ use mathlib.Core.Bool.{Bool, true, false}
 use Prim.Native.Nat.{ℕ}
 use mathlib.Core.Path.{_≡_, refl, sym, subst}
 use lib.Dec.{T}
-use Rattle.code.specs.Size.{Size}
+use Rattle.residue.specs.Size.{Size}
 use Rattle.size.specs.Answer.{Said, well, refused, Judged, taken, no-size, no-slope}
 use Rattle.house.specs.SizeTest.{sizeOk, size-sound, size-complete}
 use Rattle.house.specs.SlopeTest.{slopeOk, slope-sound, slope-complete}

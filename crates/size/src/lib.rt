@@ -1,7 +1,7 @@
 // Which sizes and slopes are taken, the house slope of each size, and the numbers for no. Every call that is told a size and a
 // slope judges them here.
 ghost use mathlib.Core.Path.{_≡_};
-ghost use Rattle.code.specs.Size.{Size, Allowed};
+ghost use Rattle.residue.specs.Size.{Size, Allowed};
 ghost use Rattle.code.specs.Says.{Says};
 ghost use Rattle.size.specs.Answer.{HouseTold, houseSaid, Judged, judgementSaid};
 ghost use Rattle.size.specs.Refusal.{numberOf};

@@ -1,5 +1,5 @@
 -- `house::table` meets its contract: the code's own table passes the test of the rule, which antt computes. Assumes nothing.
-use Rattle.code.specs.Test.{upTo}
+use Rattle.residue.specs.Test.{upTo}
 use Rattle.house.specs.SizeTest.{sizeOk}
 use Rattle.house.specs.SlopeTest.{slopeOk, clear}
 use Rattle.house.specs.Table.{tableOk, table-sound}

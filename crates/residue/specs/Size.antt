@@ -1,8 +1,8 @@
 -- WHAT A READER MUST BELIEVE: which sizes and slopes there are, in the words of document 01. What a prime is, and what powers reach, is
--- said in the crate `residue` (`Prime`, `ReachesAll`). Assumes nothing.
+-- said in `Prime` and `Power`. Assumes nothing.
 use Prim.Native.Nat.{ℕ, _+_, _≤_}
 use Rattle.residue.specs.Prime.{Prime}
 use Rattle.residue.specs.Power.{ReachesAll}
 
 -- "The size p is a prime from 5 to 257."
 pub record Size (p : ℕ) : Type 0 where
