@@ -3,13 +3,13 @@
 use code::Line;
 use search::column::along;
 use search::column::without_common;
-use walk::index::before;
 use walk::index::number;
 use walk::index::step;
 use walk::index::through;
 ghost use mathlib.Core.Path.{_≡_};
 ghost use Prim.Native.Nat.{_-_, _*_, _≤_, _<_};
 ghost use lib.ListN.{length};
+ghost use Rattle.residue.specs.Remainder as remainder;
 ghost use Rattle.code.specs.Slope.{Slope};
 ghost use Rattle.code.specs.OneLine as law;
 ghost use Rattle.code.specs.declared.Line.the-variants.{Column};
@@ -144,4 +144,12 @@ fn to_column(
     let i = before(p, back, t);
     x[i] = b[t] ^ y[k];
     to_line(p, c, n, base, weight, back, a, b, x, y, i, unfilled - 1);
+}
+
+// The place from which a step of k comes to t.
+fn before(p: usize, k: usize, t: usize) -> usize
+    requires { ⌜ (k < p) × (t < p) × (p ≤ 257) ⌝ }
+    ensures { λ r. ⌜ (r ≡ remainder.before p k t) × (r < p) ⌝ }
+{
+    if t < k { t + p - k } else { t - k }
 }

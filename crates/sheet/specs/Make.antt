@@ -17,13 +17,21 @@ use Rattle.code.specs.Place.{place-lt, tileOf, tile-length, tile-cells, from-le
 use Rattle.code.specs.Xored.{xored-is}
 use Rattle.code.specs.Settle.{settles-good, settles-sums}
 use Rattle.code.specs.declared.Line.the-variants.{Column}
-use Rattle.code.specs.Held.{held, zeros-held}
-use Rattle.walk.specs.Sums.{Sums, ByteAdded}
+use Rattle.code.specs.Held.{held, hit, zeros-held}
+use Rattle.walk.specs.Sums.{Sums}
 use Rattle.chain.specs.Cases.{held-totals}
 use Rattle.cells.specs.Change.{Added, cell-added}
 use Rattle.chain.specs.Settled.{LinesSettled}
 use Rattle.sheet.specs.Sheet.{records, rowOf, columnOf, Names, wasOf, isOf, differenceOf, given, differences, Placed, SoundBelow}
 use Rattle.sheet.specs.Calls.{Corrects}
+
+-- x is added to the sum of the slope-s line through the cell in row i and column j
+abbrev pub ByteAdded : ℕ → ℕ → ℕ → ℕ → ℕ → List ℕ → List ℕ → Type 0
+ByteAdded p s i j x sums sums′ = (t : ℕ) → held sums′ t ≡ held sums t ⊕ keep (eqb (line p s i j) t) x
+
+-- `sums[k] = sums[k] ^ x`, where k is the slope-s line through a cell
+pub byte-added : (p s i j x : ℕ) (sums : List ℕ) (k : ℕ) → k ≡ line p s i j → k < length sums → ByteAdded p s i j x sums (set sums k (bitXor (held sums k) x))
+byte-added p s i j x sums k e h t = hit sums k x t h ∙ ap (λ (u : ℕ). held sums t ⊕ keep (eqb u t) x) e
 
 -- what one record adds
 abbrev pub lonely : List ℕ → ℕ → Cells

@@ -1,11 +1,12 @@
 // The correction sheet: records that each name a place in a tile's text, the byte that was there and the byte that is to be. The
 // tile need not be sound: what is made is the change that the sheet asks for, the same in every tile.
+use cells::place;
 use chain::checks;
+use code::Line;
 use promise::judge_tile;
 use size::Judgement;
 use size::Refusal;
-use walk::index::place;
-use walk::sums::add_byte;
+use walk::index::through;
 ghost use mathlib.Core.Path.{_≡_};
 ghost use Prim.Native.Nat.{_+_, _≤_, _<_};
 ghost use lib.ListN.{length};
@@ -15,6 +16,7 @@ ghost use Rattle.code.specs.Says.{Says};
 ghost use Rattle.sheet.specs.Sheet.{records, Marked, Names, wasOf, isOf, SoundBelow};
 ghost use Rattle.sheet.specs.Calls.{Judged, Corrects, CorrectTold};
 ghost use Rattle.sheet.specs.Answer.{correctedSaid};
+ghost use Rattle.sheet.specs.Make.{ByteAdded};
 
 // What a sheet's call answers: the number of its records, or a refusal with the offset of the faulty record's first byte.
 pub enum Corrected {
@@ -115,6 +117,16 @@ fn make(p: usize, l: usize, sheet: &[u8], tile: &mut [u8])
         made += 1;
     }
     checks::settle(p, l, &a, &b, tile);
+}
+
+// Adds a byte to the sum of the slope-s line through the cell in row i and column j.
+fn add_byte(p: usize, s: usize, i: usize, j: usize, x: u8, sums: &mut [u8; 257])
+    requires { ⌜ (i < p) × (j < p) × (s < p) × (p ≤ 257) × (length (now sums) ≡ 257) ⌝ }
+    ensures { λ _. ⌜ ByteAdded p s i j x (now (sums .entry)) (now (sums .exit)) ⌝ }
+    ensures { λ _. ⌜ length (now (sums .exit)) ≡ 257 ⌝ }
+{
+    let t = through(p, s, Line::Row(i), j);
+    sums[t] = sums[t] ^ x;
 }
 
 // Corrects a tile, sound or damaged, by a sheet. The whole sheet is judged before a byte is written.

@@ -1,15 +1,10 @@
 -- What is asked of a tile that is walked, and what the arrays of its sums hold. Assumes nothing.
-use mathlib.Core.Path.{_≡_, ap, _∙_}
+use mathlib.Core.Path.{_≡_}
 use mathlib.Core.List.{List}
 use Prim.Native.Nat.{ℕ, _+_, _%_, _≤_, _<_}
-use lib.Bits.{bitXor}
-use lib.Dec.{eqb}
-use lib.ListN.{length, set}
-use Rattle.xor.specs.Xor.{_⊕_}
-use Rattle.xor.specs.Sum.{keep}
 use Rattle.residue.specs.Prime.{Prime}
-use Rattle.code.specs.Held.{held, hit}
-use Rattle.code.specs.Tile.{Cells, tileLength, line, sum}
+use Rattle.code.specs.Held.{held}
+use Rattle.code.specs.Tile.{Cells, tileLength, sum}
 
 -- a tile of n bytes, and a slope along which its lines are summed. The walk wants the slope's inverse, and so a prime p
 pub record Shape (p s n : ℕ) : Type 0 where
@@ -28,15 +23,7 @@ pub record Stepped (p t s r : ℕ) : Type 0 where
   pub is : r ≡ (t + s) % p
   pub lt : r < p
 
--- x is added to the sum of the slope-s line through the cell in row i and column j
-abbrev pub ByteAdded : ℕ → ℕ → ℕ → ℕ → ℕ → List ℕ → List ℕ → Type 0
-ByteAdded p s i j x sums sums′ = (t : ℕ) → held sums′ t ≡ held sums t ⊕ keep (eqb (line p s i j) t) x
-
 -- all sums are one byte
 pub record AllOne (p : ℕ) (A B : ℕ → ℕ) : Type 0 where
   pub first : (t : ℕ) → t < p → A t ≡ A 0
   pub second : (t : ℕ) → t < p → B t ≡ A 0
-
--- `sums[k] = sums[k] ^ x`, where k is the slope-s line through a cell
-pub byte-added : (p s i j x : ℕ) (sums : List ℕ) (k : ℕ) → k ≡ line p s i j → k < length sums → ByteAdded p s i j x sums (set sums k (bitXor (held sums k) x))
-byte-added p s i j x sums k e h t = hit sums k x t h ∙ ap (λ (u : ℕ). held sums t ⊕ keep (eqb u t) x) e

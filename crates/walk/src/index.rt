@@ -1,19 +1,9 @@
-// Places and lines modulo p.
+// Steps and lines modulo p.
 use code::Line;
 ghost use mathlib.Core.Path.{_≡_};
-ghost use Prim.Native.Nat.{_+_, _-_, _≤_, _<_};
-ghost use Rattle.residue.specs.Remainder as remainder;
-ghost use Rattle.code.specs.Tile as tile;
+ghost use Prim.Native.Nat.{_≤_, _<_};
 ghost use Rattle.code.specs.OneLine as law;
 ghost use Rattle.walk.specs.Sums.{Stepped};
-
-// Where the cell in row i and column j stands in memory.
-pub fn place(p: usize, i: usize, j: usize) -> usize
-    requires { ⌜ (i < p - 1) × (j < p - 1) × (p ≤ 257) ⌝ }
-    ensures { λ r. ⌜ r ≡ tile.place p i j ⌝ }
-{
-    i * (p - 1) + j
-}
 
 // The place a step of s after t.
 pub fn step(p: usize, t: usize, s: usize) -> usize
@@ -22,14 +12,6 @@ pub fn step(p: usize, t: usize, s: usize) -> usize
 {
     let next = t + s;
     if next < p { next } else { next - p }
-}
-
-// The place from which a step of k comes to t.
-pub fn before(p: usize, k: usize, t: usize) -> usize
-    requires { ⌜ (k < p) × (t < p) × (p ≤ 257) ⌝ }
-    ensures { λ r. ⌜ (r ≡ remainder.before p k t) × (r < p) ⌝ }
-{
-    if t < k { t + p - k } else { t - k }
 }
 
 // The number of a row or a column.

@@ -1,9 +1,7 @@
 // The sums of a tile's lines.
 use crate::index::step;
-use crate::index::through;
 use crate::turn::inverse;
 use crate::turn::turned;
-use code::Line;
 ghost use mathlib.Core.Path.{_≡_};
 ghost use Prim.Native.Nat.{_+_, _-_, _≤_, _<_};
 ghost use lib.ListN.{length};
@@ -11,7 +9,7 @@ ghost use Rattle.code.specs.Tile.{cell, tileLength, Good};
 ghost use Rattle.code.specs.Turn as law;
 ghost use Rattle.code.specs.Says.{Says};
 ghost use Rattle.code.specs.Held.{held};
-ghost use Rattle.walk.specs.Sums.{Shape, Sums, AllOne, ByteAdded};
+ghost use Rattle.walk.specs.Sums.{Shape, Sums, AllOne};
 ghost use Rattle.walk.specs.Walk.{BytesAdded, RowAdded};
 
 // The sums of the slope-s lines of a tile: that of line t stands at t.
@@ -67,16 +65,6 @@ fn add_bytes(tile: &[u8], start: usize, count: usize, sums: &mut [u8; 257], firs
         sums[first + k] = sums[first + k] ^ tile[start + k];
         k += 1;
     }
-}
-
-// Adds a byte to the sum of the slope-s line through the cell in row i and column j.
-pub fn add_byte(p: usize, s: usize, i: usize, j: usize, x: u8, sums: &mut [u8; 257])
-    requires { ⌜ (i < p) × (j < p) × (s < p) × (p ≤ 257) × (length (now sums) ≡ 257) ⌝ }
-    ensures { λ _. ⌜ ByteAdded p s i j x (now (sums .entry)) (now (sums .exit)) ⌝ }
-    ensures { λ _. ⌜ length (now (sums .exit)) ≡ 257 ⌝ }
-{
-    let t = through(p, s, Line::Row(i), j);
-    sums[t] = sums[t] ^ x;
 }
 
 // Is the tile good?

@@ -16,7 +16,7 @@ use Rattle.chain.proofs.pair.+to_column+to_line.Lts-to_column as to-col
 use Rattle.chain.proofs.pair.to_line.Reads as to-line
 use Rattle.chain.proofs.pair.to_line.Kinds as to-line-kinds
 use Rattle.chain.proofs.pair.+to_column+to_line.Lts-to_line as to-line-lts
-use Rattle.walk.proofs.index.before.Reads as before-reads
+use Rattle.chain.proofs.pair.before.Reads as before-reads
 use Rattle.walk.proofs.index.step.Reads as step-reads
 use Rattle.chain.proofs.pair.+to_column+to_line.{statement}
 use Rattle.chain.proofs.pair.+to_column+to_line.Tie.{close}

@@ -1,8 +1,8 @@
--- `walk::index::before` meets its contract. Assumes nothing.
+-- `chain::pair::before` meets its contract. Assumes nothing.
 use native.Mathlib.Omega.{arith}
-use Rattle.walk.specs.Bound.{before-low, before-high}
-use Rattle.walk.proofs.index.before.Statement.{statement}
-use Rattle.walk.proofs.index.before.Tie as tie
+use Rattle.chain.specs.Back.{before-low, before-high}
+use Rattle.chain.proofs.pair.before.Statement.{statement}
+use Rattle.chain.proofs.pair.before.Tie as tie
 
 add-result : tie.Need-add-result
 add-result c = omega arith

@@ -1,10 +1,10 @@
--- `walk::sums::add_byte` meets its contract. Assumes nothing.
+-- `sheet::add_byte` meets its contract. Assumes nothing.
 use native.Mathlib.Omega.{arith}
 use lib.ListN.{length-set}
 use borrow.Author.Needs.{needs}
-use Rattle.walk.specs.Sums.{byte-added}
-use Rattle.walk.proofs.sums.add_byte.Statement.{statement}
-use Rattle.walk.proofs.sums.add_byte.Tie as tie
+use Rattle.sheet.specs.Make.{byte-added}
+use Rattle.sheet.proofs.add_byte.Statement.{statement}
+use Rattle.sheet.proofs.add_byte.Tie as tie
 
 through-requires : tie.Need-through-requires
 through-requires c κs = search needs
