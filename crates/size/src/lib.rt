@@ -46,8 +46,8 @@ pub fn house_slope(p: usize) -> House
     let mut i = 0;
     while i < 53 {
         let entry = entries[i];
-        if entry.0 == p {
-            return House::Slope(entry.1);
+        if entry / 100 == p {
+            return House::Slope(entry % 100);
         }
         i += 1;
     }

@@ -5,12 +5,12 @@ use native.Mathlib.Omega.{arith}
 use borrow.Author.Count.{below-more}
 use borrow.Author.Needs.{needs}
 use Rattle.size.specs.Answer.{given, no-size}
-use Rattle.house.specs.House.{entryAt, HouseTable}
+use Rattle.house.specs.House.{entrySize, entryAt, HouseTable}
 use Rattle.size.proofs.house_slope.Statement.{statement}
 use Rattle.size.proofs.house_slope.Tie as tie
 
 abbrev Inv-loop : tie.InvT-loop
-Inv-loop p entries i₀ i = HouseTable entries × (i ≤ 53) × ((k : ℕ) → k < i → entryAt entries k .0 ≡ p → ⊥)
+Inv-loop p entries i₀ i = HouseTable entries × (i ≤ 53) × ((k : ℕ) → k < i → entrySize (entryAt entries k) ≡ p → ⊥)
 
 abbrev μ-loop : tie.MeasureT-loop
 μ-loop p entries i₀ i = 53 - i
@@ -24,12 +24,12 @@ loop-holds c = (c .table .ensures, omega arith, λ k h e. omega arith)
 mul-entry : tie.Need-mul-entry Inv-loop μ-loop
 mul-entry c = omega arith
 
-array-copy-out-entry : tie.Need-array-copy-out-entry Inv-loop μ-loop
-array-copy-out-entry c = omega arith
+array-read-entry : tie.Need-array-read-entry Inv-loop μ-loop
+array-read-entry c = omega arith
 
 returns : tie.Need-returns Inv-loop μ-loop
 returns c =
-    let at = c .before .before .before .before .loop in
+    let at = c .before .before .loop in
     let entry = at .inv .0 .each (at .i) (omega arith) in
     rw (c .if1 .taken) at (given (entry .0) (entry .1))
 
@@ -41,7 +41,7 @@ loop-less c = omega arith
 
 loop-again : tie.Need-loop-again Inv-loop μ-loop
 loop-again c =
-    let inv = c .before .before .before .before .loop .inv in
+    let inv = c .before .before .loop .inv in
     (inv .0, omega arith, below-more _ _ (inv .2) (c .if1 .left))
 
 returns-2 : tie.Need-returns-2 Inv-loop μ-loop
@@ -50,4 +50,4 @@ returns-2 c =
     no-size (inv .0 .every _ (λ k h. inv .2 k (omega arith)))
 
 pub house-slope-spec : {M : Type 1} → statement M
-house-slope-spec = tie.close (tie.spec Inv-loop μ-loop table-requires loop-holds mul-entry array-copy-out-entry returns add-i loop-less loop-again returns-2)
+house-slope-spec = tie.close (tie.spec Inv-loop μ-loop table-requires loop-holds mul-entry array-read-entry returns add-i loop-less loop-again returns-2)
