@@ -1,7 +1,14 @@
 // The face for C and Rust, as include/counterfrost.h declares it. Each call wraps a proved one: it answers by a word, and promises what that
 // one does. None asks anything of its input.
+use promise::Repaired;
 use reel::Found;
 use sheet::Corrected;
+use size::House;
+ghost use mathlib.Core.Path.{_≡_};
+ghost use Rattle.size.specs.Answer.{houseSaid};
+ghost use Rattle.promise.specs.Answer.{repairSaid};
+ghost use Rattle.word.specs.Word as spec;
+ghost use Rattle.word.specs.Fits.{Fits};
 ghost use Rattle.counterfrost.specs.Calls.{HouseWorded, WriteWorded, ReadWorded, RepairWorded, FillWorded, CorrectWorded, NextWorded};
 
 // The house slope of the size p.
@@ -9,7 +16,7 @@ ghost use Rattle.counterfrost.specs.Calls.{HouseWorded, WriteWorded, Rea
 pub extern "C" fn cf_house_slope(p: usize) -> u64
     ensures { λ r. ⌜ HouseWorded p r ⌝ }
 {
-    word::of_house(size::house_slope(p))
+    of_house(size::house_slope(p))
 }
 
 // Writes the one good tile with that text.
@@ -33,7 +40,7 @@ pub extern "C" fn cf_read(p: usize, l: usize, tile: &[u8], text: &mut [u8]) -> u
 pub extern "C" fn cf_repair(p: usize, l: usize, tile: &mut [u8]) -> u64
     ensures { λ r. ⌜ RepairWorded p l (now (tile .entry)) r (now (tile .exit)) ⌝ }
 {
-    word::of_repair(tile::repair(p, l, tile))
+    of_repair(tile::repair(p, l, tile))
 }
 
 // Fills one or two flagged lines, each named by a number.
@@ -96,5 +103,29 @@ pub extern "C" fn cf_next(
             *offset = from as u64;
             word::refused(refusal)
         }
+    }
+}
+
+// What the house slope's call answers.
+fn of_house(answer: House) -> u64
+    requires { ⌜ Fits (spec.sizeAnswer (houseSaid answer)) ⌝ }
+    ensures { λ r. ⌜ r ≡ spec.word (spec.sizeAnswer (houseSaid answer)) ⌝ }
+{
+    match answer {
+        House::Slope(l) => word::word(word::DONE, l as u16),
+        House::Refused(refusal) => word::refused(refusal),
+    }
+}
+
+// What repair answers.
+fn of_repair(answer: Repaired) -> u64
+    requires { ⌜ Fits (spec.tileAnswer (repairSaid answer)) ⌝ }
+    ensures { λ r. ⌜ r ≡ spec.word (spec.tileAnswer (repairSaid answer)) ⌝ }
+{
+    match answer {
+        Repaired::Clean => word::done(),
+        Repaired::Column(c) => word::word(word::COLUMN, c as u16),
+        Repaired::Row(r) => word::word(word::ROW, r as u16),
+        Repaired::Refused(refusal) => word::refused(refusal),
     }
 }

@@ -2,7 +2,6 @@
 use mathlib.Core.Path.{_≡_}
 use mathlib.Core.List.{List, _++_, append-assoc}
 use Prim.Native.Nat.{ℕ, _+_, _≤_, _<_}
-use native.Mathlib.Nat.{zero-add}
 use native.Mathlib.Numerals.{add-one}
 use native.Mathlib.Omega.{arith}
 use lib.ListN.{length, take, getD, set}
@@ -30,7 +29,3 @@ word-laid text word laid = rw (append-assoc text word lf) laid
 pub number-laid : (text word : List ℕ) (n : ℕ) {bytes new : List ℕ} {count more : ℕ} → Holds bytes count (text ++ (word ++ space))
     → Holds new more (take count bytes ++ decimal n ++ lf) → Holds new more (text ++ (word ++ space ++ decimal n) ++ lf)
 number-laid text word n first second = rw (append-assoc text (word ++ space) (decimal n)) at (rw (first .is) at second)
-
--- bytes copied to the front of others are the first of them
-pub copied : (bytes words new : List ℕ) → length words ≤ length bytes → new ≡ paste bytes 0 words (length words) → take (length words) new ≡ words
-copied bytes words new fits e = rw zero-add at (laid-all bytes 0 words (omega arith) new e .is)

@@ -5,7 +5,7 @@ ghost use lib.ListN.{length};
 ghost use lib.Seq.{paste};
 
 // Copies all of `from` into `to`, from place `at` on.
-pub fn copy(from: &[u8], to: &mut [u8], at: usize)
+pub(crate) fn copy(from: &[u8], to: &mut [u8], at: usize)
     requires { ⌜ at + length (now from) ≤ length (now to) ⌝ }
     ensures { λ _. ⌜ now (to .exit) ≡ paste (now (to .entry)) at (now (from .entry)) (length (now (from .entry))) ⌝ }
 {

@@ -1,3 +1,3 @@
 // The lines of a listing as text, letter by letter. Nothing is written here: that is for the crate `listing`.
-pub mod bytes;
+mod bytes;
 pub mod line;

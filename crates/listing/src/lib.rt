@@ -1,6 +1,5 @@
 // The listing of a reel: a line for each tile, and a closing line. What each line says is settled byte by byte; what is left to the
 // system is to write it.
-use lettering::bytes;
 pub use lettering::line;
 use libc::STDOUT_FILENO;
 use promise::Repaired;
@@ -20,7 +19,7 @@ fn state(p: usize, l: usize, bytes: &[u8], copy: &mut [u8]) -> Repaired
     ensures { λ r. ⌜ RepairSays p l (now (bytes .entry)) (repairSaid r) ⌝ }
 {
     let n = bytes.len();
-    bytes::copy(bytes, copy, 0);
+    bytes::copy(bytes, copy);
     mender::repair(p, l, &mut copy[..n])
 }
 

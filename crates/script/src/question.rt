@@ -1,6 +1,6 @@
 // A line of the script: its columns, and its bytes. Nothing is asked of the signs; others than digits are read as some digit.
 use code::Line;
-ghost use Prim.Native.Nat.{_+_, _≤_, _<_};
+ghost use Prim.Native.Nat.{_+_, _<_};
 ghost use lib.ListN.{length};
 
 // How many columns stand before the bytes. The last of them has the colon by which a question is known.
@@ -15,9 +15,17 @@ pub struct Told {
     pub second: Line,
 }
 
-pub fn numbers(line: &[u8]) -> Told
-    requires { ⌜ 24 ≤ length (now line) ⌝ }
-{
+// What the columns of a line tell; of one that is too short, nothing.
+pub fn numbers(line: &[u8]) -> Told {
+    if line.len() < COLUMNS {
+        return Told {
+            name: b' ',
+            p: 0,
+            l: 0,
+            first: Line::Row(0),
+            second: Line::Row(0),
+        };
+    }
     Told {
         name: line[0],
         p: number(line, 8),

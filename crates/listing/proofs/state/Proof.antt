@@ -1,10 +1,16 @@
 -- `listing::state` meets its contract: what is repaired is a copy of the bytes. Assumes nothing.
-use mathlib.Core.Path.{sym}
-use lib.Seq.{length-take-le}
-use Rattle.lettering.specs.Lay.{copied}
+use mathlib.Core.Path.{_≡_, sym, ap, _∙_}
+use mathlib.Core.List.{List, _++_}
+use Prim.Native.Nat.{ℕ}
+use lib.ListN.{length, take}
+use lib.Seq.{length-take-le, take-length, take-append-seam}
 use borrow.Author.Needs.{needs}
 use Rattle.listing.proofs.state.Statement.{statement}
 use Rattle.listing.proofs.state.Tie as tie
+
+-- bytes copied to the front of others are the first of them
+copied : (words rest new : List ℕ) → new ≡ take (length words) words ++ rest → take (length words) new ≡ words
+copied words rest new e = ap (λ (l : List ℕ). take (length words) l) (e ∙ ap (λ (l : List ℕ). l ++ rest) (take-length words)) ∙ take-append-seam words rest
 
 copy-requires : tie.Need-copy-requires
 copy-requires c κs = search needs
@@ -28,7 +34,7 @@ returns c =
     let args = c .before .before .before .before .before .before .before .before .before .before .args in
     record {
       new = _;
-      told = rw (copied (args .copy .now) (args .bytes .now) _ (c .before .before .before .before .before .before .before .before .before .before .pre) (copy .ensures)) at (repaired .repair .ensures);
+      told = rw (copied (args .bytes .now) _ _ (copy .ensures .1)) at (repaired .repair .ensures);
     }
 
 pub state-spec : {M : Type 1} → statement M

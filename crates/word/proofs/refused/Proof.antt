@@ -8,11 +8,14 @@ use Rattle.word.proofs.refused.Tie as tie
 number-requires : tie.Need-number-requires
 number-requires c κs = search needs
 
+cast-word : tie.Need-cast-word
+cast-word c = omega (arith, number-fits (c .before .args .refusal))
+
 word-requires : tie.Need-word-requires
-word-requires c κs = (omega arith, omega (arith, number-fits (c .before .args .refusal)))
+word-requires c κs = search needs
 
 returns : tie.Need-returns
 returns c = search needs
 
 pub refused-spec : {M : Type 1} → statement M
-refused-spec = tie.close (tie.spec number-requires word-requires returns)
+refused-spec = tie.close (tie.spec number-requires cast-word word-requires returns)

@@ -1,8 +1,8 @@
--- `word::of_repair` meets its contract. Assumes nothing.
+-- `counterfrost::of_repair` meets its contract. Assumes nothing.
 use native.Mathlib.Omega.{arith}
 use borrow.Author.Needs.{needs}
-use Rattle.word.proofs.of_repair.Statement.{statement}
-use Rattle.word.proofs.of_repair.Tie as tie
+use Rattle.counterfrost.proofs.of_repair.Statement.{statement}
+use Rattle.counterfrost.proofs.of_repair.Tie as tie
 
 enum-told : tie.Need-enum-told
 enum-told c = search needs
@@ -13,14 +13,20 @@ done-requires c κs = search needs
 enum-known-answer : tie.Need-enum-known-answer
 enum-known-answer c = search needs
 
+cast-word : tie.Need-cast-word
+cast-word c = omega (arith, rw (c .before .answer .given .1) at (c .before .before .before .pre) .0)
+
 word-requires : tie.Need-word-requires
-word-requires c κs = (omega arith, rw (c .before .answer .given .1) at (c .before .before .before .pre) .0)
+word-requires c κs = search needs
 
 enum-known-answer-2 : tie.Need-enum-known-answer-2
 enum-known-answer-2 c = search needs
 
+cast-word-2 : tie.Need-cast-word-2
+cast-word-2 c = omega (arith, rw (c .before .answer2 .given .1) at (c .before .before .before .pre) .0)
+
 word-requires-2 : tie.Need-word-requires-2
-word-requires-2 c κs = (omega arith, rw (c .before .answer2 .given .1) at (c .before .before .before .pre) .0)
+word-requires-2 c κs = search needs
 
 enum-known-answer-3 : tie.Need-enum-known-answer-3
 enum-known-answer-3 c = search needs
@@ -47,8 +53,10 @@ of-repair-spec =
     enum-told
     done-requires
     enum-known-answer
+    cast-word
     word-requires
     enum-known-answer-2
+    cast-word-2
     word-requires-2
     enum-known-answer-3
     refused-requires
