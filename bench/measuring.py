@@ -3,6 +3,7 @@
 import shutil
 import subprocess
 import sys
+from pathlib import Path
 
 from building import EMULATOR, ON_X86_64, OUT
 
@@ -11,6 +12,9 @@ SIZES = [17, 127, 257]
 # All that the emulator knows, AVX2 among it, so that memcpy and ISA-L choose their wide code. But not ERMS: memcpy would then be one
 # instruction, which the emulator carries out, and counts, byte by byte.
 CPU = "max,-erms"
+
+# The machine's own loader for x86-64. Where there is one, its C library is loaded, and the cross compiler's loader would break on that.
+LOADER = Path("/lib64/ld-linux-x86-64.so.2")
 
 # The two runs whose difference is the cost of the calls between. The first call is in both: it also binds functions and fills tables.
 FEW, MANY = 1, 3
@@ -21,7 +25,7 @@ PASSES = 12
 
 def instructions_of_run(case, p, repeats):
     """The instructions of the whole program. It has no environment and a short name: both are put on its stack and would shift it."""
-    roots = [] if ON_X86_64 else ["-L", "/usr/x86_64-linux-gnu"]
+    roots = [] if LOADER.exists() else ["-L", "/usr/x86_64-linux-gnu"]
     words = [shutil.which(EMULATOR), *roots, "-cpu", CPU, "-plugin", "./count.so", "./bench", case, str(p), str(repeats)]
     done = subprocess.run(words, cwd=OUT, env={}, capture_output=True, text=True)
     if done.returncode != 0:
