@@ -1,10 +1,10 @@
--- `worked::ask::sums` is safe: the tests before the sums are what the sums ask, and a size's tile has at most 256 · 256 bytes. Assumes nothing.
+-- `script::look::sums` is safe: the tests before the sums are what the sums ask, and a size's tile has at most 256 · 256 bytes. Assumes nothing.
 use Prim.Native.Nat.{_-_, _≤_}
 use native.Mathlib.Nat.{mul-le-mul}
 use native.Mathlib.Omega.{arith}
 use Rattle.code.specs.Says.{says-true}
-use Rattle.worked.proofs.ask.sums.Statement.{statement}
-use Rattle.worked.proofs.ask.sums.Tie as tie
+use Rattle.script.proofs.look.sums.Statement.{statement}
+use Rattle.script.proofs.look.sums.Tie as tie
 
 takes-size-requires : tie.Need-takes-size-requires
 takes-size-requires c κs = tt

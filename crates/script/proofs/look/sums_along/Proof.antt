@@ -1,9 +1,9 @@
--- `worked::ask::sums_along` is safe: the size is at most the 257 sums that there is room for. Assumes nothing.
+-- `script::look::sums_along` is safe: the size is at most the 257 sums that there is room for. Assumes nothing.
 use mathlib.Core.Path.{sym}
 use lib.Seq.{length-take-le}
 use borrow.Author.Needs.{needs}
-use Rattle.worked.proofs.ask.sums_along.Statement.{statement}
-use Rattle.worked.proofs.ask.sums_along.Tie as tie
+use Rattle.script.proofs.look.sums_along.Statement.{statement}
+use Rattle.script.proofs.look.sums_along.Tie as tie
 
 line-sums-requires : tie.Need-line-sums-requires
 line-sums-requires c κs = search needs
