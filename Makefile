@@ -1,68 +1,79 @@
-# make test    the whole gate: every crate proved from nothing, every must-fail edit refused, every program run and compared, and the C library
-#              held to an implementation that shares nothing with it
-# make check   prove the crates, or with NAME=... one crate and what it stands on, and run the programs
-# make list    list a sample reel, or with REEL=... another one; proves the program `list` first where something has changed
-# make lib     prove the C library and build its archive, target/staticlib/libcounterfrost.a
-# make install put the archive, the header, a pkg-config file and the listing program below PREFIX, /usr/local where none is named
-# make face    the C library alone: its header, the examples, an installation, and some hundred thousand calls compared
-# make bench   measure the C library beside others, and write the tables of docs/BENCHMARK.md (needs python3)
-# make reels   run the program `list` on thousands of reels, and compare with what document 01 asks for (needs python3)
-# make expected   work out again what the program `worked` has to print, and hold the stored text to it; and the same for the sample
-#                 reels, and for what the gate runs `list` on (needs python3)
+# `make` alone says what there is. What stands behind ## is what it says: how long a target takes on two cores, and what it does.
 
 REEL ?= samples/short.reel
 PREFIX ?= /usr/local
-VERSION = 0.1.0
+VERSION := $(shell sed -n 's/^\#define CF_VERSION_TEXT "\(.*\)"/\1/p' include/counterfrost.h)
+# Until 1.0.0 calls may change with the second number of the version, so the shared library is known by the first two.
+SONAME := libcounterfrost.so.$(basename $(VERSION))
 
 ARCHIVE = target/staticlib/libcounterfrost.a
+SHARED = target/shared/libcounterfrost.so.$(VERSION)
+DIST = counterfrost-$(VERSION)-linux-x86_64
 
 # How many crates, or edits, rt proves at a time: one more than there are cores, so that none is idle while the last of a batch is proved.
 export RT_JOBS ?= $(shell n=$$(nproc); echo $$((n < 4 ? n + 1 : 5)))
 
-.PHONY: test check list lib install face bench reels expected target/bin/list
+.PHONY: help list lib install uninstall dist test check face bench reels expected clean target/bin/list
 
-test:
+help: ## at once             this list
+	@echo 'Counterfrost $(VERSION). What was proved once is not proved again: the times in brackets are for later runs.'
+	@echo
+	@sed -n 's/^\([a-z]*\):.*## /  make \1#/p' Makefile | awk -F'#' '{ printf "%-18s%s\n", $$1, $$2 }'
+	@echo
+	@echo 'README.md says what all this is for.'
+
+list: target/bin/list ## 2 minutes (at once) lists a sample reel, or with REEL=path another one; nothing is changed in it
+	@tools/list-reel "$(REEL)"
+
+lib: $(ARCHIVE) $(SHARED) ## 2 minutes (at once) proves the library for C and builds it: target/staticlib, target/shared
+
+install: lib target/bin/list ## 3 minutes (at once) puts library, header and program below PREFIX, /usr/local if none is named
+	@tools/place "$(DESTDIR)$(PREFIX)" $(VERSION) $(SONAME) $(ARCHIVE) $(SHARED)
+	@echo "installed below $(DESTDIR)$(PREFIX): bin/counterfrost-list, include/counterfrost.h, and in lib the archive and the shared library"
+	@echo "to compile with it: export PKG_CONFIG_PATH=$(abspath $(PREFIX))/lib/pkgconfig"
+
+uninstall: ## at once             takes away what install puts below PREFIX
+	@tools/place --remove "$(DESTDIR)$(PREFIX)"
+	@echo "removed from $(DESTDIR)$(PREFIX)"
+
+dist: lib target/bin/list ## 3 minutes (at once) a tar file with all that a user needs, and no need of the kit: target/dist
+	@rm -rf target/dist && mkdir -p target/dist
+	@tools/place "target/dist/$(DIST)" $(VERSION) $(SONAME) $(ARCHIVE) $(SHARED)
+	@tools/pack "target/dist/$(DIST)"
+	@echo "target/dist/$(DIST).tar.gz"
+
+test: ## 8 minutes           the whole gate: everything proved from nothing, every wrong program tried, the library compared; removes target/
 	@echo "kit: $$(rt version)"
 	@echo "pinned: $$(cat KIT)"
 	@.ci/gate
 
-check:
+check: ## 4 minutes (at once) proves all crates and runs the programs; with NAME=crate that one, and what it stands on
 	@rt check $(NAME)
+
+face: lib target/bin/list ## half a minute       once the library is built: header, examples, installation, tar file, calls compared
+	@tests/face/run $(ARCHIVE)
+	@tests/installed
+
+bench: lib ## 3 minutes           once the library is built: measures it, and writes the tables of docs/BENCHMARK.md (needs python3)
+	@bench/install
+	@bench/run $(ARCHIVE)
+
+reels: target/bin/list ## half a minute       lists some thousand reels, and compares (needs python3, on x86-64)
+	@python3 tests/reels.py target/bin/list
+
+expected: ## seconds             works out again what the programs have to print, and compares (needs python3)
+	@python3 tests/expected_worked.py | diff - crates/worked/stdout && echo "crates/worked/stdout is what SPEC asks for"
+	@python3 tests/samples.py
+
+clean: ## at once             removes target/, with all that was proved and built
+	@rm -rf target
 
 # Proves `list` and builds it, where something has changed since. Standard output is kept for the listing.
 target/bin/list:
 	@tools/prove list
 
-list: target/bin/list
-	@. tests/tools && choose_tools && run_made target/bin/list < "$(REEL)"
-
-lib: $(ARCHIVE)
-
 $(ARCHIVE): crates.txt $(shell find crates -name '*.rt' -o -name '*.antt')
-	@tools/prove $$(sed -n 's/^counterfrost: *//p' crates.txt)
-	@echo "proving the crate counterfrost and building $@" >&2
-	@said=$$(rt staticlib counterfrost 2>&1) || { echo "$$said" >&2; exit 1; }
+	@tools/prove --archive counterfrost
 
-# The program gets a longer name there: `list` is too common a word for a folder that is shared.
-install: lib target/bin/list
-	@install -d "$(DESTDIR)$(PREFIX)/lib/pkgconfig" "$(DESTDIR)$(PREFIX)/include" "$(DESTDIR)$(PREFIX)/bin"
-	@install -m 644 $(ARCHIVE) "$(DESTDIR)$(PREFIX)/lib/"
-	@install -m 644 include/counterfrost.h "$(DESTDIR)$(PREFIX)/include/"
-	@install -m 755 target/bin/list "$(DESTDIR)$(PREFIX)/bin/counterfrost-list"
-	@sed -e 's|@PREFIX@|$(abspath $(PREFIX))|' -e 's|@VERSION@|$(VERSION)|' counterfrost.pc.in > "$(DESTDIR)$(PREFIX)/lib/pkgconfig/counterfrost.pc"
-	@echo "installed below $(DESTDIR)$(PREFIX): lib/libcounterfrost.a, lib/pkgconfig/counterfrost.pc, include/counterfrost.h, bin/counterfrost-list"
-
-face: lib target/bin/list
-	@tests/face/run $(ARCHIVE)
-	@tests/installed
-
-bench: lib
-	@bench/install
-	@bench/run $(ARCHIVE)
-
-reels: target/bin/list
-	@python3 tests/reels.py target/bin/list
-
-expected:
-	@python3 tests/expected_worked.py | diff - crates/worked/stdout && echo "crates/worked/stdout is what document 01 asks for"
-	@python3 tests/samples.py
+$(SHARED): $(ARCHIVE) packaging/exports
+	@tools/share $(ARCHIVE) $@ $(SONAME)

@@ -24,7 +24,7 @@ struct given {
     const struct calls *calls;
     uint8_t *text;
     uint8_t *tile;
-    size_t first, second; /* the flagged lines */
+    size_t first, second; /* the lines to fill */
     uint8_t *sheet;
     size_t sheet_length;
 };
@@ -165,19 +165,19 @@ static bool prepare_tile_job(const struct calls *calls, const char *name, size_t
     given->text = new_text(p);
     given->tile = new_tile(p, given->text);
     hurt = new_copy(given->tile, cf_tile_len(p));
-    *job = (struct job){ .given = given, .p = p, .length = cf_tile_len(p), .answer = answer_of(CF_DONE, 0) };
+    *job = (struct job){ .given = given, .p = p, .length = cf_tile_len(p), .answer = answer_of(CF_KIND_DONE, 0) };
     if (strcmp(name, "write") == 0) {
         prepare_write(job, given);
     } else if (strcmp(name, "read") == 0) {
         prepare_read(job, given);
     } else if (strcmp(name, "repair-clean") == 0) {
-        prepare_repair(job, given, hurt, answer_of(CF_DONE, 0));
+        prepare_repair(job, given, hurt, answer_of(CF_KIND_DONE, 0));
     } else if (strcmp(name, "repair-column") == 0) {
         damage_column(hurt, p, last);
-        prepare_repair(job, given, hurt, answer_of(CF_COLUMN, last));
+        prepare_repair(job, given, hurt, answer_of(CF_KIND_COLUMN, last));
     } else if (strcmp(name, "repair-row") == 0) {
         damage_row(hurt, p, last);
-        prepare_repair(job, given, hurt, answer_of(CF_ROW, last));
+        prepare_repair(job, given, hurt, answer_of(CF_KIND_ROW, last));
     } else if (strcmp(name, "fill-columns") == 0) {
         damage_column(hurt, p, third);
         damage_column(hurt, p, two_thirds);

@@ -6,36 +6,39 @@
  * of the text on a tile that may itself be hurt. Where there is no answer, a call says so by a number and touches nothing.
  *
  * SIZES AND SLOPES
- *   The size p of a tile is a prime from 5 to 257. The tile has p-1 rows and p-1 columns of bytes, laid row by row: (p-1)*(p-1)
- *   bytes. Its text has p-1 rows of p-3 bytes, laid row by row: (p-1)*(p-3) bytes. It stands in the tile's columns 0 to p-4; the
- *   checks are in columns p-3 and p-2. Rows and columns count from 0.
- *   The slope l is a number from 2 to p-2 of which the powers modulo p reach each of 1 to p-1. If nothing else is agreed, use the
- *   house slope that cf_house_slope gives. A tile is read and repaired with the size and slope with which it was written.
+ *   The size p says how large a tile is: one byte less than p in each direction, so that size 5 is a tile of 4 by 4 bytes, and 257 one of
+ *   256 by 256. It is one of the 53 primes between 5 and 257. A tile lies row by row in (p-1)*(p-1) bytes. Rows and columns count from 0.
+ *   The last two columns, p-3 and p-2, hold the checks; the text stands in the p-3 columns before them, and by itself lies row by
+ *   row in (p-1)*(p-3) bytes.
+ *   The slope l says how the checks run across the tile. Take the house slope that cf_house_slope gives, unless you and those who wrote
+ *   the tile agreed on another: a tile is read and repaired with the size and the slope that it was written with. Which other slopes
+ *   there are is told by cf_takes. docs/SPEC.md has the rules.
  *
  * ANSWERS
  *   Every call answers one 64-bit word: a kind, and two numbers. cf_kind, cf_first and cf_second take it apart.
  *
- *     kind         first          means
- *     CF_DONE      0              done; for cf_repair: nothing was hurt; for cf_next: a tile stands here
- *     CF_DONE      the slope      for cf_house_slope only
- *     CF_COLUMN    the column     cf_repair put this column right
- *     CF_ROW       the row        cf_repair put this row right
- *     CF_REFUSED   the number     refused; see below
- *     CF_END       0              cf_next: the reel ends here
+ *     kind              first          means
+ *     CF_KIND_DONE      0              done; for cf_repair: nothing was hurt; for cf_next: a tile stands here
+ *     CF_KIND_DONE      the slope      for cf_house_slope only
+ *     CF_KIND_COLUMN    the column     cf_repair put this column right
+ *     CF_KIND_ROW       the row        cf_repair put this row right
+ *     CF_KIND_REFUSED   the number     refused; see below
+ *     CF_KIND_END       0              cf_next: the reel ends here
  *
- *   The second number is 0 in each of these. CF_CELL is kept for a later answer, with the row first and the column second.
+ *   The second number is 0 in each of these. CF_KIND_CELL is kept for a later answer, with the row first and the column second.
  *
  * REFUSALS
- *   A refused call changes no byte of a tile or text. Its number says why. Where several apply, the one that the call's own text below
- *   names first is given.
+ *   A refused call changes no byte of a tile or text. Its number says why, and cf_refusal_words has words for it. Where several apply, the
+ *   one that the call's own text below names first is given.
  *
- *     1 CF_BAD_SIZE     p is no prime from 5 to 257
- *     2 CF_BAD_SLOPE    l is not from 2 to p-2, or its powers miss a remainder
- *     3 CF_BAD_LENGTH   a tile or a text has the wrong length for p
- *     4 CF_BAD_PLACE    a line to fill is above p-2, or a correction names a row above p-2 or a column above p-4
+ *     1 CF_BAD_SIZE     p is not a size
+ *     2 CF_BAD_SLOPE    l is not a slope that can be used at p
+ *     3 CF_BAD_LENGTH   a tile or a text has another length than p asks for
+ *     4 CF_BAD_PLACE    the tile does not have a line to be filled (they end at p-2), or the text does not have a place to be corrected (its
+ *                       rows end at p-2, its columns at p-4)
  *     5 CF_DAMAGED      cf_read: the tile is not good; cf_repair, cf_fill: no repair of that kind exists
  *     6 CF_BAD_MARK     a record of a sheet or of a reel does not begin with its mark
- *     7 CF_CUT_SHORT    a sheet's length is no multiple of 8, or a reel ends within a record
+ *     7 CF_CUT_SHORT    a sheet or a reel ends within a record
  *
  * WHO OWNS WHAT
  *   All memory is yours. A call uses it until it returns, and keeps no pointer; it allocates nothing, and holds no state, so calls may
@@ -57,13 +60,18 @@
 extern "C" {
 #endif
 
-/* The kinds of an answer. */
-#define CF_DONE 0u
-#define CF_COLUMN 1u
-#define CF_ROW 2u
-#define CF_CELL 3u
-#define CF_REFUSED 4u
-#define CF_END 7u
+/* The version of this header: 10000 times the first of its numbers, 100 times the second, and the third. cf_version gives that of the
+ * library. Until 1.0.0 calls may change where the second number does; the shared library is named by these two. */
+#define CF_VERSION 200
+#define CF_VERSION_TEXT "0.2.0"
+
+/* The kinds of an answer. The lines that cf_fill is given are named by cf_row and cf_column, further below, and not by these. */
+#define CF_KIND_DONE 0u
+#define CF_KIND_COLUMN 1u
+#define CF_KIND_ROW 2u
+#define CF_KIND_CELL 3u
+#define CF_KIND_REFUSED 4u
+#define CF_KIND_END 7u
 
 /* The numbers of a refusal. */
 #define CF_BAD_SIZE 1u
@@ -74,19 +82,25 @@ extern "C" {
 #define CF_BAD_MARK 6u
 #define CF_CUT_SHORT 7u
 
-/* The house slope of the size p: the smallest slope that p allows. CF_DONE with the slope, or refused 1. */
+/* The version of the library, a number as CF_VERSION is. */
+uint64_t cf_version(void);
+
+/* The house slope of the size p: the least one that can be used there. CF_KIND_DONE with the slope, or refused 1. */
 uint64_t cf_house_slope(size_t p);
 
-/* Writes the one good tile with that text; what the tile held before does not matter. CF_DONE, or refused 1, 2 or 3. */
+/* Whether p is a size and l a slope that can be used there; no tile is needed to ask. CF_KIND_DONE, or refused 1 or 2. */
+uint64_t cf_takes(size_t p, size_t l);
+
+/* Writes the one good tile with that text; what the tile held before does not matter. CF_KIND_DONE, or refused 1, 2 or 3. */
 uint64_t cf_write(size_t p, size_t l, const uint8_t *text, size_t text_len, uint8_t *tile, size_t tile_len);
 
-/* Reads the text of a good tile. CF_DONE, or refused 1, 2, 3, or 5 for a tile that is not good: repair that one first. */
+/* Reads the text of a good tile. CF_KIND_DONE, or refused 1, 2, 3, or 5 for a tile that is not good: repair that one first. */
 uint64_t cf_read(size_t p, size_t l, const uint8_t *tile, size_t tile_len, uint8_t *text, size_t text_len);
 
 /*
- * Repairs a tile of which one column or one row may be hurt. CF_DONE: it is good, and was not touched. CF_COLUMN or CF_ROW: a good
- * tile differs from it in that line alone, and the tile is now that one. Columns are tried first, from 0 upward, then rows; a lone hurt
- * byte is therefore told as its column. Refused 1, 2, 3, or 5 where no good tile differs from it in one line alone.
+ * Repairs a tile of which one column or one row may be hurt. CF_KIND_DONE: it is good, and was not touched. CF_KIND_COLUMN or
+ * CF_KIND_ROW: a good tile differs from it in that line alone, and the tile is now that one. Columns are tried first, from 0 upward, then
+ * rows; a lone hurt byte is therefore told as its column. Refused 1, 2, 3, or 5 where no good tile differs from it in one line alone.
  *
  * Two hurt lines can look like one. A tile that is repaired is good; that it is the tile that was printed, nobody can promise if more
  * than one line was hurt.
@@ -95,19 +109,18 @@ uint64_t cf_repair(size_t p, size_t l, uint8_t *tile, size_t tile_len);
 
 /*
  * Fills one or two lost lines, whatever bytes they hold now. Each line is named by cf_row or cf_column (a row by its number, a column by
- * 8000 hex plus its number); for one line, name it twice. The tile becomes the one good tile that agrees with it elsewhere. CF_DONE, or
+ * 8000 hex plus its number); for one line, name it twice. It becomes the only good tile that is the same elsewhere. CF_KIND_DONE, or
  * refused 1, 2, 3, 4 for a line that the tile does not have, or 5 where there is no such tile. Two rows, or two columns, can always be
  * filled.
  */
 uint64_t cf_fill(size_t p, size_t l, uint8_t *tile, size_t tile_len, size_t first, size_t second);
 
 /*
- * Corrects the text of a tile by a sheet: a run of records of 8 bytes, each the mark C3 3C, a row (2 bytes, the high one first), a
- * column (2 bytes), the byte that was, and the byte that is to be. The tile need not be good: each record changes its cell, and the
- * check columns, by the difference of its two bytes, so that what was hurt before can be repaired as before. The byte that was is not
- * compared with the tile.
+ * Corrects the text of a tile by a sheet: records of 8 bytes, one behind the other, as cf_lay_correction lays them. The tile need not be
+ * good: each record changes its cell, and the check columns, by the difference of its two bytes, so that what was hurt before can be
+ * repaired as before. What "was" says is not compared with the tile.
  *
- * CF_DONE, with the number of records in *count_or_offset. Refused 1, 2, 3 or 7, with 0 there; or 6 or 4, with the offset of the first
+ * CF_KIND_DONE, with the number of records in *count_or_offset. Refused 1, 2, 3 or 7, with 0 there; or 6 or 4, with the offset of the first
  * faulty record (6 if that record has both faults). The whole sheet is judged before the tile is touched. *count_or_offset is set by every call.
  */
 uint64_t cf_correct(size_t p, size_t l, uint8_t *tile, size_t tile_len, const uint8_t *sheet, size_t sheet_len,
@@ -117,8 +130,8 @@ uint64_t cf_correct(size_t p, size_t l, uint8_t *tile, size_t tile_len, const ui
  * Says what stands at a place of a reel. A reel is a run of records without gaps, each the mark D5 5D, p (2 bytes, the high one first),
  * l (2 bytes), the tile's number (4 bytes), and the tile's bytes. Offsets count from the reel's first byte; begin with place 0.
  *
- * CF_DONE: a tile, with its number, p and l, and the offset of its bytes; the next record stands at that offset plus cf_tile_len(p).
- * CF_END: the place is at or past the reel's end. Refused 7 (fewer than 10 bytes are left), 6, 1, 2, or 7 (fewer than the tile needs),
+ * CF_KIND_DONE: a tile, with its number, p and l, and the offset of its bytes; the next record stands at that offset plus cf_tile_len(p).
+ * CF_KIND_END: the place is at or past the reel's end. Refused 7 (fewer than 10 bytes are left), 6, 1, 2, or 7 (fewer than the tile needs),
  * with the place itself in *offset. All four numbers are set by every call, to 0 where there is no value. The tile is not judged: it
  * may be hurt. To repair it, copy its bytes first, or let the reel be yours to change.
  */
@@ -132,13 +145,55 @@ static inline unsigned cf_first(uint64_t answer) { return (unsigned)(answer >> 1
 static inline unsigned cf_second(uint64_t answer) { return (unsigned)(answer & 0xffffu); }
 
 /* The number of a refusal; 0 where the answer is none. */
-static inline unsigned cf_refusal(uint64_t answer) { return cf_kind(answer) == CF_REFUSED ? cf_first(answer) : 0u; }
+static inline unsigned cf_refusal(uint64_t answer) { return cf_kind(answer) == CF_KIND_REFUSED ? cf_first(answer) : 0u; }
+
+/* Words for the number of a refusal, as cf_refusal gives it, for people to read. Every number has some: 0 is "not refused". */
+static inline const char *cf_refusal_words(unsigned refusal)
+{
+    switch (refusal) {
+    case 0u:
+        return "not refused";
+    case CF_BAD_SIZE:
+        return "the size is not one of the primes between 5 and 257";
+    case CF_BAD_SLOPE:
+        return "the slope cannot be used at this size";
+    case CF_BAD_LENGTH:
+        return "a tile or a text does not have the length of this size";
+    case CF_BAD_PLACE:
+        return "the tile does not have that line, or its text that place";
+    case CF_DAMAGED:
+        return "the tile is damaged, and this call cannot put it right";
+    case CF_BAD_MARK:
+        return "a record does not begin with its mark";
+    case CF_CUT_SHORT:
+        return "a sheet or a reel ends within a record";
+    default:
+        return "no refusal has this number";
+    }
+}
 
 /* The name of a row and of a column, for cf_fill. A number of 7fff hex or more is named as 7fff hex: no tile has that line, and it is
  * refused 4. */
 static inline size_t cf_row(size_t row) { return row < 0x7fffu ? row : 0x7fffu; }
 
 static inline size_t cf_column(size_t column) { return 0x8000u + (column < 0x7fffu ? column : 0x7fffu); }
+
+/* Lays one record of a sheet into 8 bytes: the mark C3 3C, the row and the column (2 bytes each, the high one first), the byte that stood
+ * there, and the one that is to stand there. A row or column of ffff hex or more is laid as ffff hex: no text has it, and it is
+ * refused 4. */
+static inline void cf_lay_correction(uint8_t record[8], size_t row, size_t column, uint8_t was, uint8_t is)
+{
+    size_t r = row < 0xffffu ? row : 0xffffu;
+    size_t c = column < 0xffffu ? column : 0xffffu;
+    record[0] = 0xC3;
+    record[1] = 0x3C;
+    record[2] = (uint8_t)(r >> 8);
+    record[3] = (uint8_t)(r & 0xffu);
+    record[4] = (uint8_t)(c >> 8);
+    record[5] = (uint8_t)(c & 0xffu);
+    record[6] = was;
+    record[7] = is;
+}
 
 /* How many bytes a tile of size p has, and its text, for p from 5 to 257. */
 static inline size_t cf_tile_len(size_t p) { return (p - 1) * (p - 1); }

@@ -1,6 +1,6 @@
-"""What the program `worked` has to print for its script, crates/worked/stdin. It is worked out from the rules of document 01, never from
-the program. And what the documents themselves say of the worked tiles, the paper's examples and the whole case is held against it: the
-script must ask it, and the rules must give the document's answer; only then is the text printed."""
+"""What the program `worked` has to print for its script, crates/worked/stdin. It is worked out from the rules of SPEC, never from the
+program. And what SPEC 10 says of its tiles and its reel, and the paper of its examples, is held against it: the script must ask it, and the
+rules must give the answer that is said; only then is the text printed."""
 
 import sys
 
@@ -9,7 +9,7 @@ sys.dont_write_bytecode = True  # leave no files beside the sources
 from pathlib import Path  # noqa: E402
 
 from expected import paper, tiles  # noqa: E402
-from expected.reel import WHOLE_CASE, WHOLE_PLACES  # noqa: E402
+from expected.reel import WHOLE_PLACES, WHOLE_REEL  # noqa: E402
 from expected.script import run  # noqa: E402
 
 SCRIPT = Path(__file__).resolve().parent.parent / "crates/worked/stdin"
@@ -30,5 +30,5 @@ def says(name, p, l, held, lent, answer=None, left=None, lines=(), begins=""):
 tiles.hold(says)
 paper.hold(says)
 for at, stands in WHOLE_PLACES.items():
-    says("place", at, 0, list(WHOLE_CASE), [], left=list(WHOLE_CASE), begins=stands)
+    says("place", at, 0, list(WHOLE_REEL), [], left=list(WHOLE_REEL), begins=stands)
 print(printed, end="")

@@ -1,4 +1,4 @@
-"""Tries the program `list`: runs it on many reels and compares what it prints, byte for byte, with what document 01 asks for, as
+"""Tries the program `list`: runs it on many reels and compares what it prints, byte for byte, with what SPEC 8 asks for, as
 tests/expected/reel.py works it out. The reels stand in tests/expected/reels/.
 
     python3 tests/reels.py target/bin/list
@@ -17,7 +17,7 @@ import fed  # noqa: E402
 from expected.reel import listing  # noqa: E402
 from expected.reels import GROUPS, pieces  # noqa: E402
 
-UNREADABLE = b"list: the input could not be read\n"  # on standard error, where reading standard input fails
+UNREADABLE = b"counterfrost-list: the input could not be read\n"  # its words on standard error where reading standard input fails (SPEC 8.2)
 
 
 class Trial(NamedTuple):
@@ -103,7 +103,7 @@ def main(command):
         print("usage: python3 tests/reels.py COMMAND..., where the command can be run", file=sys.stderr)
         return 2
     count, otherwise = print_groups(command)
-    print(f"{count} reels:", f"{otherwise} listed otherwise" if otherwise else "all listed as document 01 asks")
+    print(f"{count} reels:", f"{otherwise} listed otherwise" if otherwise else "all listed as SPEC asks")
     return 1 if otherwise else 0
 
 

@@ -1,5 +1,5 @@
 """The sample reels, and what the gate runs the program `list` on. They are made here, and what `list` must print is worked out from
-document 01 (tests/expected/reel.py).
+SPEC 7 and 8 (tests/expected/reel.py).
 
     python3 tests/samples.py            # are the stored files what is made here?
     python3 tests/samples.py --write    # stores them"""
@@ -11,7 +11,7 @@ sys.dont_write_bytecode = True  # leave no files beside the sources
 from pathlib import Path  # noqa: E402
 
 from expected import long_reel  # noqa: E402
-from expected.reel import WHOLE_CASE, listing  # noqa: E402
+from expected.reel import WHOLE_REEL, listing  # noqa: E402
 
 TOP = Path(__file__).resolve().parent.parent
 PAGE = "samples/README.md"
@@ -43,7 +43,7 @@ def files():
     long = long_reel.reel()
     assert len(long) < MOST
     return {
-        "samples/short.reel": WHOLE_CASE,
+        "samples/short.reel": WHOLE_REEL,
         "samples/long.reel": long,
         "crates/list/stdin": long,
         "crates/list/stdout": listing(long).encode(),
@@ -67,7 +67,7 @@ def check():
     if other:
         print("otherwise than tests/samples.py makes them:", *other)
         return 1
-    print(", ".join(made), "are what document 01 asks for")
+    print(", ".join(made), "are what SPEC asks for")
     return 0
 
 

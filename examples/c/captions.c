@@ -17,8 +17,8 @@ static const char *const CAPTION = "- Who let the boat go?\n- The ferryman, at n
 /* Ends the program where a call was refused. */
 static uint64_t accepted(const char *call, uint64_t answer)
 {
-    if (cf_kind(answer) == CF_REFUSED) {
-        fprintf(stderr, "%s: refused %u\n", call, cf_refusal(answer));
+    if (cf_kind(answer) == CF_KIND_REFUSED) {
+        fprintf(stderr, "%s: refused %u: %s\n", call, cf_refusal(answer), cf_refusal_words(cf_refusal(answer)));
         exit(EXIT_FAILURE);
     }
     return answer;
@@ -46,21 +46,6 @@ static void scratch(uint8_t tile[TILE], size_t column)
     }
 }
 
-/* Makes the record of a sheet that changes one letter of the text. */
-static void correction(uint8_t record[8], size_t place, char was, char is)
-{
-    size_t row = place / TEXT_COLUMNS;
-    size_t column = place % TEXT_COLUMNS;
-    record[0] = 0xC3;
-    record[1] = 0x3C;
-    record[2] = (uint8_t)(row >> 8);
-    record[3] = (uint8_t)row;
-    record[4] = (uint8_t)(column >> 8);
-    record[5] = (uint8_t)column;
-    record[6] = (uint8_t)was;
-    record[7] = (uint8_t)is;
-}
-
 int main(void)
 {
     uint8_t text[TEXT], tile[TILE], sheet[8];
@@ -78,12 +63,12 @@ int main(void)
     printf("filled: row 4 and column 9\n");
 
     scratch(tile, wrong_letter % TEXT_COLUMNS);
-    correction(sheet, wrong_letter, 'm', 'n');
+    cf_lay_correction(sheet, wrong_letter / TEXT_COLUMNS, wrong_letter % TEXT_COLUMNS, 'm', 'n');
     accepted("cf_correct", cf_correct(SIZE, slope, tile, TILE, sheet, sizeof sheet, &records));
     printf("corrected: %u letter\n", (unsigned)records);
 
     answer = accepted("cf_repair", cf_repair(SIZE, slope, tile, TILE));
-    printf("repaired: %s %u\n", cf_kind(answer) == CF_COLUMN ? "column" : "row", cf_first(answer));
+    printf("repaired: %s %u\n", cf_kind(answer) == CF_KIND_COLUMN ? "column" : "row", cf_first(answer));
 
     accepted("cf_read", cf_read(SIZE, slope, tile, TILE, text, TEXT));
     printf("read:\n%.*s\n", (int)strlen(CAPTION), (const char *)text);

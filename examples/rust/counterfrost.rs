@@ -4,7 +4,9 @@
 
 mod c {
     extern "C" {
+        pub fn cf_version() -> u64;
         pub fn cf_house_slope(p: usize) -> u64;
+        pub fn cf_takes(p: usize, l: usize) -> u64;
         pub fn cf_write(p: usize, l: usize, text: *const u8, text_len: usize, tile: *mut u8, tile_len: usize) -> u64;
         pub fn cf_read(p: usize, l: usize, tile: *const u8, tile_len: usize, text: *mut u8, text_len: usize) -> u64;
         pub fn cf_repair(p: usize, l: usize, tile: *mut u8, tile_len: usize) -> u64;
@@ -54,9 +56,19 @@ fn name(line: Line) -> usize {
     }
 }
 
+/// The library's version: 10000 times the first of its numbers, 100 times the second, and the third.
+pub fn version() -> u64 {
+    unsafe { c::cf_version() }
+}
+
 /// The house slope of the size p.
 pub fn house_slope(p: usize) -> Result<usize, Refused> {
     taken(unsafe { c::cf_house_slope(p) }, 0).map(|(_, slope)| usize::from(slope))
+}
+
+/// Whether p is a size and l a slope that can be used there, and if not, why.
+pub fn takes(p: usize, l: usize) -> Result<(), Refused> {
+    taken(unsafe { c::cf_takes(p, l) }, 0).map(|_| ())
 }
 
 /// Writes the one good tile with that text.

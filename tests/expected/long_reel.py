@@ -62,10 +62,10 @@ def lines(byte, *hurt):
 
 
 def worked(n):
-    """A worked tile of document 01 in place of the captions."""
+    """A worked tile of SPEC 10 in place of the captions."""
     before, answer, _ = REPAIRED[n]
-    words = "zeros but 1 at " + " and ".join(f"({i}, {j})" for i, j in before)
-    return Done(f"worked tile {n}: {words}", lambda p, tile: ones(before)), answer
+    words = " and ".join(f"({i}, {j})" for i, j in before)
+    return Done(f"worked tile {n}: 1 in {words}, 0 elsewhere", lambda p, tile: ones(before)), answer
 
 
 # Tile number, p, l, what was done, and what repair must answer.

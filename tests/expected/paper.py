@@ -1,6 +1,6 @@
-"""The examples of document 000, the paper. The arrays are typed from the scan with its row and column of added zeros. What the paper says
-of them is asserted; the script must ask it, and the answer that the rules give must be the paper's. Its numbers that the scan has wrong
-are said where they stand."""
+"""The examples of the paper (Blaum and Bruck 2000). The arrays are typed from a scan of it, with the row and column of added zeros. What
+the paper says of them is asserted; the script must ask it, and the answer that the rules give must be the paper's. Its numbers that the
+scan has wrong are said where they stand."""
 
 from expected.tile import is_good, parsed, place, sums, text_length, text_of
 

@@ -1,6 +1,6 @@
-"""The reel of document 01: how a record is laid out, which records are refused, and what the program `list` has to print for a reel.
-What is said of a tile comes from the definition of a good tile (tests/expected/tile.py), what is said of a size and a slope from the
-rule for them (tests/expected/sizes.py)."""
+"""The reel, from SPEC 7 and 8 and, for the bytes of a record, from FORMATS: how a record is laid out, which records are refused, and
+what the program `list` has to print for a reel. What is said of a tile comes from the definition of a good tile (tests/expected/tile.py),
+what is said of a size and a slope from the rule for them (tests/expected/sizes.py)."""
 
 from functools import lru_cache
 from struct import pack, unpack_from
@@ -9,9 +9,9 @@ from expected.sizes import verdict
 from expected.tile import repair, tile_length
 
 MARK = bytes.fromhex("D5 5D")
-LAYOUT = ">2sHHI"  # big-endian: mark, p (2 bytes), l (2 bytes), tile number (4 bytes)
-HEADER = 10
-LONGEST = 65536  # how many bytes `list` takes
+LAYOUT = ">2sHHI"  # FORMATS: mark, p, l, tile number; high bytes first (SPEC 1.2)
+HEADER = 10  # SPEC 7.1
+LONGEST = 65536  # SPEC 8.2: how many bytes `list` takes
 
 
 def record(number, p, l, tile, mark=MARK):
@@ -20,7 +20,7 @@ def record(number, p, l, tile, mark=MARK):
 
 
 def refusal(reel, at):
-    """The number with which the record at an offset is refused, or None: 7 for the header, 6, 1, 2, 7 for the body."""
+    """SPEC 7.2, rows 2 to 5: the number with which the record at an offset is refused, or None."""
     left = len(reel) - at
     if left < HEADER:
         return 7
@@ -35,12 +35,12 @@ def refusal(reel, at):
 
 @lru_cache(maxsize=1024)  # a reel that is changed in one place has most of its tiles again
 def state(p, l, tile):
-    """What repair answers for a tile."""
+    """SPEC 8.1: what repair answers for a tile."""
     return repair(p, l, list(tile))[0]
 
 
 def tiles(reel):
-    """The line of each tile up to the end or a refusal, and the offset where the last one ends."""
+    """SPEC 7.5 and 8.1: the line of each tile up to the end or a refusal, and the offset where the last one ends."""
     lines, at = [], 0
     while at < len(reel) and refusal(reel, at) is None:
         _, p, l, number = unpack_from(LAYOUT, reel, at)
@@ -50,7 +50,7 @@ def tiles(reel):
 
 
 def listing(reel):
-    """All that `list` prints on standard output."""
+    """SPEC 8: all that `list` prints on standard output."""
     if len(reel) > LONGEST:
         return "too long\n"
     lines, at = tiles(reel)
@@ -58,8 +58,8 @@ def listing(reel):
     return "".join(f"{line}\n" for line in (*lines, closing))
 
 
-# "Whole case: tile 7, p 5, l 2, sixteen zeros; tile 8 likewise, but 41 hex at row 2, column 3; then one byte 00".
-WHOLE_CASE = (
+# The whole reel of SPEC 10, and its listing. FORMATS has it byte by byte.
+WHOLE_REEL = (
     record(7, 5, 2, bytes(16))
     + record(8, 5, 2, bytes(2 * 4 + 3) + bytes.fromhex("41") + bytes(16 - (2 * 4 + 3) - 1))
     + bytes(1)
@@ -69,8 +69,8 @@ WHOLE_LISTING = """\
 8 5 2 column 3
 stopped 7 52
 """
-assert len(WHOLE_CASE) == 53 and listing(WHOLE_CASE) == WHOLE_LISTING
+assert len(WHOLE_REEL) == 53 and listing(WHOLE_REEL) == WHOLE_LISTING
 # What a reader finds at the places of its records: the tiles that are listed, with the offsets of their bytes, and the refusal.
 WHOLE_PLACES = {0: "tile 7 5 2 at 10 ", 26: "tile 8 5 2 at 36 ", 52: "refused 7 at 52 "}
-# "An empty input gives `end 0`."
+# The empty reel has no tiles (SPEC 7.1).
 assert listing(b"") == "end 0\n"

@@ -1,5 +1,5 @@
 """The script of the program `worked`, and what has to be answered to each of its questions. The script says at its top how it is read. The
-answers come from the rules: of tiles from tests/expected/tile.py, of sheets, sizes and reels from the files beside it."""
+answers come from the rules of SPEC: of tiles in tests/expected/tile.py, of sheets, sizes and reels in the files beside it."""
 
 from struct import unpack_from
 from typing import NamedTuple
@@ -58,7 +58,7 @@ def listed(data):
 
 
 def found(reel, at):
-    """What stands at a place of a reel, and the place behind it: where no tile stands, the place itself."""
+    """SPEC 7.2 and 7.3: what stands at a place of a reel, and the place behind it: where no tile stands, the place itself."""
     if at >= len(reel):
         return "end", at
     no = reels.refusal(reel, at)
@@ -70,7 +70,8 @@ def found(reel, at):
 
 
 def at_place(reel, at):
-    """All that is asked for at a place. The tile's bytes lie between its header and the place behind it; without a tile there are none."""
+    """SPEC 7.3, and 7.4 for a reader's second step: all that is asked for at a place. The tile's bytes lie between its header and the
+    place behind it; without a tile there are none."""
     here, after = found(reel, at)
     rest = reel[after:]
     second, _ = found(reel, found(reel, 0)[1])

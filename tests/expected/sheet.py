@@ -1,14 +1,14 @@
-"""The correction sheet of document 01: what its records say, which of them are faulty, and what the tile becomes. The change that a
-sheet makes is the good tile written from the text of its differences, and so comes from the definition of a good tile
-(tests/expected/tile.py)."""
+"""The correction sheet, from SPEC 6 and, for the bytes of a record, from FORMATS: what its records say, which of them are faulty, and what
+the tile becomes. The change that a sheet makes is the good tile that has its differences as text, and so comes from the definition of a
+good tile (tests/expected/tile.py)."""
 
 from struct import pack, unpack
 
 from expected.tile import place, refusal, text_length, text_of, tile_length, write
 
 MARK = bytes.fromhex("C3 3C")
-LAYOUT = ">2sHHBB"  # big-endian: mark, row (2 bytes), column (2 bytes), the byte that was, the byte that is to be
-LENGTH = 8
+LAYOUT = ">2sHHBB"  # FORMATS: mark, row, column, was, is; high bytes first (SPEC 1.2)
+LENGTH = 8  # SPEC 6.1
 
 
 def record(row, column, was, to_be, mark=MARK):
@@ -22,7 +22,7 @@ def records(sheet):
 
 
 def fault(p, sheet):
-    """The sheet's own refusal with its offset, or None: 7, then record by record 6 before 4."""
+    """SPEC 6.3: the sheet's own refusal with its offset, or None. The length is judged, then of each record its mark and its place."""
     if len(sheet) % LENGTH != 0:
         return "refused 7 at 0"
     for at, mark, row, column, _, _ in records(sheet):
@@ -34,7 +34,7 @@ def fault(p, sheet):
 
 
 def differences(sheet):
-    """Each place that is named, with the XOR of the differences given for it."""
+    """SPEC 6.2: each place that is named, with the differences of its records taken together."""
     found = {}
     for _, _, row, column, was, to_be in records(sheet):
         found[row, column] = found.get((row, column), 0) ^ was ^ to_be
@@ -42,7 +42,7 @@ def differences(sheet):
 
 
 def change(p, l, sheet):
-    """The good tile written from the differences, which has zeros elsewhere in its text."""
+    """SPEC 6.4: D, the good tile that has the differences as its text, which is 0 elsewhere."""
     given = differences(sheet)
     text = [given.get((i, j), 0) for i in range(p - 1) for j in range(p - 3)]
     assert len(text) == text_length(p)
@@ -54,7 +54,7 @@ def change(p, l, sheet):
 
 
 def correct(p, l, tile, sheet):
-    """The answer, and the tile afterwards."""
+    """SPEC 6.3 and 6.4: the answer, and the tile afterwards."""
     no = refusal(p, l, lambda: len(tile) == tile_length(p))
     if no:
         return f"{no} at 0", tile
@@ -65,11 +65,11 @@ def correct(p, l, tile, sheet):
 
 
 def added(tile, other):
-    """The XOR of two tiles, byte by byte."""
+    """SPEC 1.1: the XOR of two tiles, byte for byte."""
     return [a ^ b for a, b in zip(tile, other, strict=True)]
 
 
-# "An empty sheet answers 0 and changes nothing."
+# A sheet without records (SPEC 6.1): none is counted, and the tile stays.
 assert correct(5, 2, list(range(16)), []) == ("records 0", list(range(16)))
-# Worked tile 12: "Correction in column 2 at p 5 refused 4; column 1 accepted."
+# SPEC 10, number 12: columns 2 and 1 of a record.
 assert [correct(5, 2, [0] * 16, record(0, column, 0, 1))[0] for column in (2, 1)] == ["refused 4 at 0", "records 1"]

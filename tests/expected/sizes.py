@@ -1,42 +1,42 @@
-"""Sizes and slopes: each list that document 01 gives is held against the rule that it gives."""
+"""Sizes and slopes, from SPEC 2: the lists there are held against the rules there."""
 
 from math import gcd
 
 LAST = 300  # sizes and slopes are looked for from 0 to here
 
-# The sentence of "Sizes and slopes" that lists the house slope of each size.
+# The table of SPEC 2.3: a slope, and the sizes whose house slope it is.
 HOUSE_SLOPES = """
-    2 for 5, 11, 13, 19, 29, 37, 53, 59, 61, 67, 83, 101, 107, 131, 139, 149, 163, 173, 179, 181, 197, 211, 227;
-    3 for 7, 17, 31, 43, 79, 89, 113, 127, 137, 199, 223, 233, 257;
-    5 for 23, 47, 73, 97, 103, 157, 167, 193;
-    6 for 41, 109, 151, 229, 251;
-    7 for 71, 239, 241;
-    19 for 191"""
+    2 | 5 11 13 19 29 37 53 59 61 67 83 101 107 131 139 149 163 173 179 181 197 211 227
+    3 | 7 17 31 43 79 89 113 127 137 199 223 233 257
+    5 | 23 47 73 97 103 157 167 193
+    6 | 41 109 151 229 251
+    7 | 71 239 241
+    19 | 191"""
 
 
 def listed_house_slopes():
-    """The house slope of each size, as the sentence lists it."""
+    """The house slope of each size, as the table lists it."""
     listed = {}
-    for clause in HOUSE_SLOPES.split(";"):
-        slope, sizes = clause.split(" for ")
-        for size in sizes.split(","):
+    for row in HOUSE_SLOPES.strip().splitlines():
+        slope, sizes = row.split("|")
+        for size in sizes.split():
             assert int(size) not in listed, f"{size} is listed twice"
             listed[int(size)] = int(slope)
     return listed
 
 
 def is_size(p):
-    """A prime from 5 to 257, by trial division."""
+    """SPEC 2.1, by trial division."""
     return 5 <= p <= 257 and all(p % d != 0 for d in range(2, p))
 
 
 def is_slope(p, l):
-    """From 2 to p-2, and the p-1 powers of l modulo p reach each of 1 to p-1."""
-    return 2 <= l <= p - 2 and {pow(l, k, p) for k in range(1, p)} == set(range(1, p))
+    """SPEC 2.2, for a size p: which remainders the powers of l leave."""
+    return 2 <= l <= p - 2 and {pow(l, k, p) for k in range(p - 1)} == set(range(1, p))
 
 
 def verdict(p, l):
-    """Number 1 comes before number 2."""
+    """SPEC 2.4: number 1 comes before number 2."""
     if not is_size(p):
         return "refused 1"
     return "taken" if is_slope(p, l) else "refused 2"
@@ -55,7 +55,7 @@ assert HOUSE == listed_house_slopes()
 assert len(SIZES) == 53
 # The slopes whose powers reach all are phi(p-1) in number, and from 5 on neither 1 nor p-1 is among them.
 assert all(len(SLOPES[p]) == phi(p - 1) for p in SIZES)
-# Worked tile 12, and the trap "2 serves at 5, not at 7 or 17".
+# SPEC 10, number 12. And the same slope is allowed at one size and not at another.
 assert [verdict(p, 2) for p in (4, 9, 258)] == ["refused 1"] * 3 and is_size(5) and is_size(257)
 assert [verdict(7, l) for l in (2, 6, 3, 5)] == ["refused 2", "refused 2", "taken", "taken"]
 assert [verdict(p, 2) for p in (5, 7, 17)] == ["taken", "refused 2", "refused 2"]

@@ -1,11 +1,13 @@
-"""The four tile calls of document 01, worked out from the definition of a good tile and from nothing else.
+"""The four tile calls of SPEC 5, worked out from the definition of a good tile (SPEC 4.3) and from nothing else.
 
-A tile is the list of its bytes, row by row. That all 2p sums are one byte is a set of 2p linear equations: bytes are added by XOR,
-bit by bit, and so the equations are over GF(2). The unknowns are the bytes of the flagged cells and the one byte that all sums are.
-Gaussian elimination solves them. It tells whether there is a filling; and that the unknowns are settled, so that there is but one,
-is asserted each time. Writing is filling the two check columns, and repair is filling one line after another.
+A tile is the list of its bytes, row by row (SPEC 3.1). That all 2p sums are one byte is a set of 2p linear equations: bytes are added by
+XOR, bit by bit, and so the equations are over GF(2). The unknowns are the bytes of the flagged cells, which are those on the lines to
+fill, and the one byte that all sums are. Gaussian elimination solves them (SPEC 5.5). It tells whether there is a filling; and that the
+unknowns are settled, so that there is but one (SPEC 4.5), is asserted each time. Writing is filling the two check columns, and repair
+is filling one line after another.
 
-A line is a pair, ("row", r) or ("column", c). An answer is the text that the program prints for it."""
+A line of a slope is a diagonal (SPEC 4.1). Any other line is a row or a column: a pair, ("row", r) or ("column", c). An answer is the
+text that the program prints for it."""
 
 from functools import cache, lru_cache
 
@@ -13,13 +15,13 @@ from expected.sizes import verdict
 
 
 def place(p, i, j):
-    """Where the cell in row i and column j stands."""
+    """SPEC 3.1: where the cell in row i and column j stands."""
     return i * (p - 1) + j
 
 
 @lru_cache(maxsize=16)  # of a large tile they take megabytes
 def cells_of_lines(p, s):
-    """For each line of slope s, the places of its cells. The cells of the added row and column are left out: they hold zero."""
+    """SPEC 4.1: for each line of slope s, the places of its cells. The added row and column (SPEC 3.3) are left out: they hold 0."""
     lines = [[] for _ in range(p)]
     for i in range(p - 1):
         for j in range(p - 1):
@@ -28,7 +30,7 @@ def cells_of_lines(p, s):
 
 
 def sums(p, s, tile):
-    """The sum of each line of slope s."""
+    """SPEC 4.2: the sum of each line of slope s."""
     result = []
     for cells in cells_of_lines(p, s):
         total = 0
@@ -44,7 +46,7 @@ def both_sums(p, l, tile):
 
 
 def is_good(p, l, tile):
-    """All 2p sums equal one byte."""
+    """SPEC 4.3: all the sums are the same byte."""
     return len(set(both_sums(p, l, tile))) == 1
 
 
@@ -59,8 +61,8 @@ def places(p, line):
 
 @lru_cache(maxsize=600)  # more than the largest tile has lines
 def coefficients(p, l, lines):
-    """The left sides of the 2p equations, those of slope 1 and then those of slope l, as bits: bit 0 for the common byte, and one bit
-    for each flagged cell. With each the flagged places on its line; and all flagged places in the order of their bits."""
+    """SPEC 5.5: the left sides of the 2p equations, those of slope 1 and then those of slope l, as bits: bit 0 for the common byte, and one
+    bit for each flagged cell. With each the flagged places on its line; and all flagged places in the order of their bits."""
     flagged = sorted({k for line in lines for k in places(p, line)})
     equations = [(1, []) for _ in range(2 * p)]
     for n, k in enumerate(flagged, start=1):
@@ -128,22 +130,22 @@ def filling_of_sums(p, l, tile, totals, lines):
 
 
 def tile_length(p):
-    """How many bytes a tile of size p has."""
+    """SPEC 3.1: how many bytes a tile of size p has."""
     return (p - 1) ** 2
 
 
 def text_length(p):
-    """How many bytes a text of size p has."""
+    """SPEC 3.2: how many bytes a text of size p has."""
     return (p - 1) * (p - 3)
 
 
 def text_of(p, tile):
-    """The bytes of columns 0 to p-4, row by row."""
+    """SPEC 3.2: the bytes of columns 0 to p-4, row by row."""
     return [tile[place(p, i, j)] for i in range(p - 1) for j in range(p - 3)]
 
 
 def refusal(p, l, lengths_are_right):
-    """Refusal 1, 2 or 3, in that order, or None. Only a size has a length, so the lengths are asked for last."""
+    """SPEC 9.2: refusal 1, 2 or 3, in that order, or None. Only a size has a length, so the lengths are asked for last."""
     judged = verdict(p, l)
     if judged != "taken":
         return judged
@@ -151,7 +153,7 @@ def refusal(p, l, lengths_are_right):
 
 
 def write(p, l, text, tile):
-    """The answer, and the tile afterwards."""
+    """SPEC 5.1: the answer, and the tile afterwards."""
     no = refusal(p, l, lambda: len(tile) == tile_length(p) and len(text) == text_length(p))
     if no:
         return no, tile
@@ -164,7 +166,7 @@ def write(p, l, text, tile):
 
 
 def read(p, l, tile, text):
-    """The answer, and the text afterwards."""
+    """SPEC 5.2: the answer, and the text afterwards."""
     no = refusal(p, l, lambda: len(tile) == tile_length(p) and len(text) == text_length(p))
     if no:
         return no, text
@@ -172,7 +174,7 @@ def read(p, l, tile, text):
 
 
 def repair(p, l, tile):
-    """The answer, and the tile afterwards, by trying every column and then every row."""
+    """SPEC 5.3: the answer, and the tile afterwards, by trying every column and then every row."""
     no = refusal(p, l, lambda: len(tile) == tile_length(p))
     if no:
         return no, tile
@@ -188,7 +190,7 @@ def repair(p, l, tile):
 
 
 def fill(p, l, tile, first, second):
-    """The answer, and the tile afterwards. Two rows or two columns must have a filling."""
+    """SPEC 5.4: the answer, and the tile afterwards. Where two rows are lost, or two columns, there must be a filling."""
     no = refusal(p, l, lambda: len(tile) == tile_length(p))
     if no:
         return no, tile
@@ -202,5 +204,5 @@ def fill(p, l, tile, first, second):
 
 
 def parsed(picture, lost=0):
-    """The bytes of what document 01 shows, rows parted by a stroke, with `lost` for a question mark."""
+    """The bytes of what SPEC 10 and the paper show, strokes between rows left out, with `lost` for a question mark."""
     return [lost if sign == "?" else int(sign) for sign in picture.split() if sign != "/"]

@@ -1,5 +1,5 @@
-"""The worked tiles of document 01, 1 to 11 at p 5 and l 2, and what it says of each: the script must ask it, of these bytes, and the
-answer that the rules give must be the document's."""
+"""The worked tiles of SPEC 10, 1 to 11 at p 5 and l 2, and what is said there of each: the script must ask it, of these bytes, and the
+answer that the rules give must be the one that is said."""
 
 from expected.sheet import record
 from expected.tile import parsed
@@ -27,7 +27,7 @@ FILLED = {
 }
 LOST = (0, 255)  # what stands in the lost cells
 OTHER = 7  # what stands in a tile before it is written, and in a text before it is read
-# Worked tile 12: how sizes are judged, each with a slope that would do, and slopes at 7.
+# Number 12: how sizes are judged, each with a slope that would do, and slopes at 7.
 JUDGED = {
     **{(4, 2): "refused 1", (9, 2): "refused 1", (258, 2): "refused 1", (5, 2): "taken", (257, 3): "taken"},
     **{(7, 2): "refused 2", (7, 6): "refused 2", (7, 3): "taken", (7, 5): "taken"},
@@ -71,7 +71,7 @@ def hold_filled(says):
 
 
 def hold_corrected(says):
-    """Tile 11: tile 4 is corrected, which gives tile 1 but for 1 added at (2, 3), and then repaired."""
+    """Tile 11: tile 4 is corrected, which gives tile 1 with the hurt byte of tile 4, and then repaired."""
     tile, hurt = parsed(WRITTEN[1][1]), ones([(2, 3)])
     corrected = [a ^ b for a, b in zip(tile, hurt, strict=True)]
     says("correct", P, L, hurt, record(0, 0, 0, 1), "records 1", corrected)
@@ -79,7 +79,7 @@ def hold_corrected(says):
 
 
 def hold_edges(says):
-    """Tile 12."""
+    """Number 12."""
     for (p, l), answer in JUDGED.items():
         says("judge", p, l, [], [], answer, [])
     for length in WRONG_LENGTHS:

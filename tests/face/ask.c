@@ -204,6 +204,15 @@ uint64_t ask_house_slope(size_t p)
     return compare(&question);
 }
 
+uint64_t ask_takes(size_t p, size_t l)
+{
+    struct question question;
+    put(&question, "cf_takes, p %zu, l %zu", p, l, 0, 0);
+    question.word[LIBRARY] = cf_takes(p, l);
+    question.word[PEER] = peer_takes(p, l);
+    return compare(&question);
+}
+
 uint64_t ask_write(size_t p, size_t l, const uint8_t *text, size_t text_len, uint8_t *tile, size_t tile_len)
 {
     struct question question;

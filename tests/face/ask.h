@@ -19,6 +19,7 @@ struct found {
 };
 
 uint64_t ask_house_slope(size_t p);
+uint64_t ask_takes(size_t p, size_t l);
 uint64_t ask_write(size_t p, size_t l, const uint8_t *text, size_t text_len, uint8_t *tile, size_t tile_len);
 uint64_t ask_read(size_t p, size_t l, const uint8_t *tile, size_t tile_len, uint8_t *text, size_t text_len);
 uint64_t ask_repair(size_t p, size_t l, uint8_t *tile, size_t tile_len);

@@ -1,5 +1,5 @@
 /* Every number that a tile call is told, on both sides of its edges and at the largest, alone and together: two faults at once show the
- * order of refusals. A length is always that of bytes that are really there. */
+ * order of refusals (SPEC 9.2). A length is always that of bytes that are really there. */
 
 #include <stddef.h>
 #include <stdint.h>

@@ -1,4 +1,4 @@
-/* Fill: every pair of lines at the smallest sizes, there also with each cell hurt in turn, and pairs of each kind at all sizes. */
+/* Fill (SPEC 5.4): every pair of lines at the smallest sizes, there also with each cell hurt in turn; pairs of each kind at all sizes. */
 
 #include <stddef.h>
 #include <stdint.h>
@@ -11,7 +11,7 @@
 static struct chance chance;
 static uint8_t good[LARGEST_TILE], tile[LARGEST_TILE];
 
-/* What is hurt besides the flagged lines: nothing, one cell, one line, all; and all again, in a tile of bits. */
+/* What is hurt besides the named lines: nothing, one cell, one line, all; and all again, in a tile of bits. */
 enum besides { NOTHING, A_CELL, A_LINE, ALL, ALL_BITS, BESIDES };
 
 static void hurt_besides(size_t p, enum besides besides)
@@ -50,7 +50,7 @@ static void every_pair(size_t p, size_t l)
             fill_each_way(p, l, nth_line(p, first), nth_line(p, second));
 }
 
-/* One cell of a good tile is hurt, each in turn, and nothing is lost: where it stands on a flagged line the good tile comes back,
+/* One cell of a good tile is hurt, each in turn, and nothing is lost: where it stands on a named line the good tile comes back,
  * elsewhere there is another filling or none. */
 static void each_cell_hurt(size_t p, size_t l, size_t first, size_t second)
 {

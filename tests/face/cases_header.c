@@ -2,7 +2,10 @@
 
 #include <stddef.h>
 #include <stdint.h>
+#include <stdio.h>
+#include <string.h>
 
+#include "ask.h"
 #include "cases.h"
 #include "counterfrost.h"
 #include "differences.h"
@@ -25,10 +28,10 @@ static void take_words_apart(void)
     }
 }
 
-/* Kinds and refusals have the numbers of document 01. */
+/* Kinds have the numbers of SPEC 11.1, and refusals those of SPEC 9.1. */
 static void know_the_numbers(void)
 {
-    static const unsigned kinds[][2] = {{CF_DONE, 0}, {CF_COLUMN, 1}, {CF_ROW, 2}, {CF_CELL, 3}, {CF_REFUSED, 4}, {CF_END, 7}};
+    static const unsigned kinds[][2] = {{CF_KIND_DONE, 0}, {CF_KIND_COLUMN, 1}, {CF_KIND_ROW, 2}, {CF_KIND_CELL, 3}, {CF_KIND_REFUSED, 4}, {CF_KIND_END, 7}};
     for (size_t k = 0; k < sizeof kinds / sizeof kinds[0]; k++)
         hold(kinds[k][0] == kinds[k][1], "the kind %u has the number %u", kinds[k][1], kinds[k][0]);
     static const unsigned refusals[] = {CF_BAD_SIZE, CF_BAD_SLOPE, CF_BAD_LENGTH, CF_BAD_PLACE, CF_DAMAGED, CF_BAD_MARK, CF_CUT_SHORT};
@@ -53,7 +56,7 @@ static void name_lines(void)
     }
 }
 
-/* The lengths of document 01, and of the table in FORMATS.md. */
+/* The lengths of the table in FORMATS.md. */
 static void know_the_lengths(void)
 {
     static const size_t lengths[][3] = {{5, 16, 8},          {7, 36, 24},          {11, 100, 80},
@@ -64,10 +67,68 @@ static void know_the_lengths(void)
     }
 }
 
+/* The library is of the header's version, and the version's number and its text are the same (SPEC 11.4). */
+static void know_the_version(void)
+{
+    unsigned major, minor, patch;
+    hold(cf_version() == CF_VERSION, "the library's version is %u, the header's %u", (unsigned)cf_version(), (unsigned)CF_VERSION);
+    hold(sscanf(CF_VERSION_TEXT, "%u.%u.%u", &major, &minor, &patch) == 3, "the version's text has three numbers");
+    hold(10000 * major + 100 * minor + patch == CF_VERSION, "the version's text is that of its number");
+}
+
+/* Every number has words, and each of the seven, and none at all, has words of its own. */
+static void have_words(void)
+{
+    static const unsigned others[] = {8, 9, 255, 0xFFFF, 0x10001, 0x7FFFFFFF, 0xFFFFFFFF};
+    const char *unknown = cf_refusal_words(8);
+    for (unsigned k = 0; k < 8; k++) {
+        const char *words = cf_refusal_words(k);
+        hold(words != NULL && words[0] != 0, "the refusal %u has words", k);
+        hold(strcmp(words, unknown) != 0, "the refusal %u is known", k);
+        for (unsigned other = 0; other < k; other++)
+            hold(strcmp(words, cf_refusal_words(other)) != 0, "the refusals %u and %u have different words", k, other);
+    }
+    for (size_t k = 0; k < sizeof others / sizeof others[0]; k++)
+        hold(strcmp(cf_refusal_words(others[k]), unknown) == 0, "the refusal %u is not known", others[k]);
+}
+
+/* A record of a sheet is laid as FORMATS has it, into 8 bytes and no others. */
+static void lay_corrections(void)
+{
+    static const uint8_t examples[][8] = {
+        {0xC3, 0x3C, 0, 0, 0, 0, 0x01, 0x41}, {0xC3, 0x3C, 0, 3, 0, 1, 0x00, 0x42}, {0xC3, 0x3C, 0x01, 0x00, 0x00, 0xFD, 0xFF, 0x80}};
+    static const size_t places[][2] = {{0, 0}, {3, 1}, {256, 253}};
+    for (size_t k = 0; k < sizeof places / sizeof places[0]; k++) {
+        uint8_t laid[10] = {0xAA, 0xAA, 0xAA, 0xAA, 0xAA, 0xAA, 0xAA, 0xAA, 0xAA, 0xAA};
+        cf_lay_correction(laid + 1, places[k][0], places[k][1], examples[k][6], examples[k][7]);
+        hold(memcmp(laid + 1, examples[k], 8) == 0, "cf_lay_correction of row %zu, column %zu", places[k][0], places[k][1]);
+        hold(laid[0] == 0xAA && laid[9] == 0xAA, "cf_lay_correction writes 8 bytes");
+    }
+}
+
+/* A place that two bytes cannot say is laid as one that no text has, and refused with 4, at the record's offset. */
+static void lay_far_corrections(void)
+{
+    static const size_t far[] = {0xFFFE, 0xFFFF, 0x10000, 0x10001, 0x100000000 / 2, SIZE_MAX - 1, SIZE_MAX};
+    for (size_t k = 0; k < sizeof far / sizeof far[0]; k++) {
+        uint8_t tile[16] = {0}, sheet[16];
+        uint64_t offset;
+        cf_lay_correction(sheet, 0, 0, 0, 1);
+        cf_lay_correction(sheet + 8, far[k], 1, 0, 1);
+        hold(cf_refusal(ask_correct(5, 2, tile, 16, sheet, 16, &offset)) == CF_BAD_PLACE && offset == 8, "row %zu is refused", far[k]);
+        cf_lay_correction(sheet + 8, 1, far[k], 0, 1);
+        hold(cf_refusal(ask_correct(5, 2, tile, 16, sheet, 16, &offset)) == CF_BAD_PLACE && offset == 8, "column %zu is refused", far[k]);
+    }
+}
+
 void cases_header(void)
 {
     take_words_apart();
     know_the_numbers();
     name_lines();
     know_the_lengths();
+    know_the_version();
+    have_words();
+    lay_corrections();
+    lay_far_corrections();
 }

@@ -1,5 +1,5 @@
-/* Reels: asked at every place and cut at every byte where they are small, with every fault of a record, with tiles of all sizes, with
- * many tiles, and of any bytes. */
+/* Reels (SPEC 7.2): asked at every offset and cut at every byte where they are small, with every fault of a record, with tiles of all
+ * sizes, with many tiles, and of any bytes. */
 
 #include <stddef.h>
 #include <stdint.h>
@@ -64,7 +64,7 @@ static void each_place(size_t length)
         next(length, at);
 }
 
-/* Places far past the end: with the header's length added, the largest are small again. */
+/* Offsets far behind the last byte: with the header's length added, the largest are small again. */
 static void far_places(size_t length)
 {
     for (size_t k = 0; k < FAR_NUMBERS; k++)
@@ -73,7 +73,7 @@ static void far_places(size_t length)
         next(length, SIZE_MAX - below);
 }
 
-/* Walks as a caller does, from tile to tile, until no tile is answered. */
+/* A walk (SPEC 7.5), as a caller makes it: from tile to tile, until no tile is answered. */
 static void walk(size_t length)
 {
     struct found found;
@@ -82,7 +82,7 @@ static void walk(size_t length)
         at = found.offset + tile_length(found.p);
 }
 
-/* The same walk, but each time what is left is handed on as a reel of its own. */
+/* The same walk by the rest alone: each question is asked of what the tiles before it have left, at offset 0. */
 static void walk_by_rest(size_t length)
 {
     struct found found;

@@ -1,4 +1,4 @@
-/* Repair: lines and cells hurt in each way, damage that no line explains, and at the smallest size every tile of bits. */
+/* Repair (SPEC 5.3): lines and cells hurt in each way, damage that no line explains, and at the smallest size every tile of bits. */
 
 #include <stddef.h>
 #include <stdint.h>

@@ -1,4 +1,4 @@
-/* Correction sheets: sound ones of every length over tiles in every state, and faulty ones. */
+/* Correction sheets (SPEC 6): sound ones of every length over tiles in every state, and faulty ones. */
 
 #include <stddef.h>
 #include <stdint.h>
@@ -42,7 +42,7 @@ static void correct_and_read(size_t p, size_t l, enum state state)
     ask_read(p, l, tile, tile_length(p), text, text_length(p));
 }
 
-/* The tile is repaired without the sheet and with it. Both have the same answer: a sheet adds a good tile, and what was hurt stays so. */
+/* SPEC 6.5: the tile is repaired without the sheet and with it, and both have the same answer, since a sheet adds a good tile. */
 static void repair_without_and_with(size_t p, size_t l)
 {
     static uint8_t bare[LARGEST_TILE];
@@ -54,7 +54,7 @@ static void repair_without_and_with(size_t p, size_t l)
     ask_read(p, l, tile, tile_length(p), text, text_length(p));
 }
 
-/* The same of a fill. */
+/* SPEC 6.5, of a fill. */
 static void fill_without_and_with(size_t p, size_t l, size_t first, size_t second)
 {
     static uint8_t bare[LARGEST_TILE];
@@ -76,7 +76,7 @@ static void each_length(size_t p, size_t l)
     }
 }
 
-/* One place is corrected again and again: by a run in which each "was" is the "is" before it, and so that nothing is left of it. */
+/* One place is corrected again and again, each record going on from the one before it; then so that nothing is left of it all. */
 static void repeated_places(size_t p, size_t l)
 {
     size_t row = chance_below(&chance, p - 1), column = chance_below(&chance, p - 3);
@@ -92,7 +92,7 @@ static void repeated_places(size_t p, size_t l)
     correct_and_read(p, l, HURT);
 }
 
-/* Records for one place, each with the byte that was and the byte that is to be; 0 stands for the byte that the text holds. */
+/* Records for one place, each with its was and its is (SPEC 6.1); 0 stands for the byte that the text holds. */
 struct run {
     size_t count;
     uint8_t was_and_is[3][2];
@@ -107,7 +107,8 @@ static const struct run runs[] = {
     {1, {{80, 80}}},                      /* a record that changes nothing */
 };
 
-/* Makes a sheet of a run, with a record for another place between two of the run, and gives the byte that the text has to hold then. */
+/* Makes a sheet of a run, with a record for another place between two of the run, and gives the byte that the text has to hold
+ * then (SPEC 6.2 and 6.4). */
 static uint8_t make_run(const struct run *run, size_t p, size_t row, size_t column, uint8_t byte)
 {
     uint8_t corrected = byte;
@@ -236,7 +237,7 @@ static void places_at_the_edges(size_t p, size_t l)
             one_place_named(p, l, rows[i], columns[j]);
 }
 
-/* Two faults, in one record or in two: the first faulty record decides, and in a record the mark does. */
+/* Two faults, in one record or in two: SPEC 6.3 takes the first record that has one, and of this record the mark first. */
 static void two_faults(size_t p, size_t l)
 {
     make_state(p, l, HURT);
@@ -252,8 +253,8 @@ static void two_faults(size_t p, size_t l)
     }
 }
 
-/* Sheets of every length up to three records and some bytes, sound and with a faulty first record: a length that is no multiple of 8
- * comes before any fault of a record. */
+/* Sheets of every length up to three records and some bytes, sound and with a faulty first record: SPEC 6.3 looks at the
+ * length before it looks at a record. */
 static void each_number_of_bytes(size_t p, size_t l)
 {
     make_state(p, l, HURT);
@@ -268,7 +269,7 @@ static void each_number_of_bytes(size_t p, size_t l)
     }
 }
 
-/* A size, slope or length that is refused comes before all faults of the sheet, and its offset is 0. */
+/* A size, slope or length that is refused comes before all faults of the sheet, and its offset is 0 (SPEC 6.3). */
 static void refused_before_the_sheet(size_t p, size_t l)
 {
     const size_t asked[][3] = {{p + 1, l, tile_length(p)}, {p, p - 1, tile_length(p)}, {p, l, tile_length(p) - 1}, {p, 1, 0}};

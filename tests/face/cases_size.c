@@ -37,8 +37,10 @@ static void each_number_as_size(void)
 {
     for (size_t p = 0; p <= LAST_TRIED; p++) {
         ask_house_slope(p);
-        for (size_t l = 0; l <= 3; l++)
+        for (size_t l = 0; l <= 3; l++) {
             ask_header(p, l);
+            ask_takes(p, l);
+        }
         if (p >= 3)
             ask_tile_calls(p, is_size(p) ? house_slope(p) : 2, tile_length(p), text_length(p));
         else
@@ -70,10 +72,13 @@ static size_t count_coprime(size_t n)
 static void each_slope_of_each_size(void)
 {
     for (size_t p = size_above(0); p != 0; p = size_above(p)) {
-        size_t taken = 0;
-        for (size_t l = 0; l <= LAST_TRIED; l++)
-            taken += ask_header(p, l) == word_refused(CUT_SHORT);
+        size_t taken = 0, on_reels = 0;
+        for (size_t l = 0; l <= LAST_TRIED; l++) {
+            taken += ask_takes(p, l) == word_done();
+            on_reels += ask_header(p, l) == word_refused(CUT_SHORT);
+        }
         hold(taken == count_coprime(p - 1), "the size %zu: the peer takes %zu slopes", p, taken);
+        hold(on_reels == taken, "the size %zu: the peer takes %zu slopes on reels", p, on_reels);
     }
 }
 
@@ -88,6 +93,10 @@ static void far_sizes_and_slopes(void)
 {
     for (size_t k = 0; k < FAR_NUMBERS; k++) {
         ask_house_slope(far_numbers[k]);
+        ask_takes(far_numbers[k], 2);
+        ask_takes(5, far_numbers[k]);
+        ask_takes(257, far_numbers[k]);
+        ask_takes(far_numbers[k], far_numbers[k]);
         ask_tile_calls(far_numbers[k], 2, 16, 8);
         ask_tile_calls(5, far_numbers[k], 16, 8);
         ask_tile_calls(7, far_numbers[k], 36, 24);

@@ -1,4 +1,4 @@
-/* Writing and reading: the texts that are tried, over whatever the tile held before, and tiles that are no longer good. */
+/* Writing and reading (SPEC 5.1, 5.2): the texts that are tried, over whatever the tile held before, and tiles that are no longer good. */
 
 #include <stddef.h>
 #include <stdint.h>

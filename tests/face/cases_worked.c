@@ -1,5 +1,5 @@
-/* The worked tiles and the table of house slopes that document 01 gives. Both sides are asked, and the peer is held to the document:
- * two sides that were wrong in the same way would show here. */
+/* The worked tiles and the reel of SPEC 10, and the house slopes of SPEC 2.3. Both sides are asked, and the peer is held to what is written
+ * there: two sides that were wrong in the same way would show here. */
 
 #include <stddef.h>
 #include <stdint.h>
@@ -19,7 +19,7 @@ static uint64_t answer(unsigned kind, unsigned first)
 
 static void hold_tile(unsigned number, uint64_t said, uint64_t asked, const uint8_t *made, const uint8_t *tile)
 {
-    hold(said == asked && memcmp(made, tile, TILE) == 0, "worked tile %u: the peer says otherwise than document 01", number);
+    hold(said == asked && memcmp(made, tile, TILE) == 0, "worked tile %u: the peer says otherwise than SPEC 10", number);
 }
 
 /* Tiles 1 to 3. */
@@ -36,9 +36,9 @@ static void written(void)
     for (size_t k = 0; k < sizeof tiles / sizeof tiles[0]; k++) {
         uint8_t tile[TILE] = {0}, text[TEXT] = {0};
         uint64_t said = ask_write(5, 2, tiles[k].text, TEXT, tile, TILE);
-        hold_tile(tiles[k].number, said, answer(CF_DONE, 0), tile, tiles[k].tile);
+        hold_tile(tiles[k].number, said, answer(CF_KIND_DONE, 0), tile, tiles[k].tile);
         said = ask_read(5, 2, tile, TILE, text, TEXT);
-        hold(said == answer(CF_DONE, 0) && memcmp(text, tiles[k].text, TEXT) == 0, "worked tile %u is not read", tiles[k].number);
+        hold(said == answer(CF_KIND_DONE, 0) && memcmp(text, tiles[k].text, TEXT) == 0, "worked tile %u is not read", tiles[k].number);
     }
 }
 
@@ -49,11 +49,11 @@ static void repaired(void)
         unsigned number, kind, first;
         uint8_t before[TILE], after[TILE];
     } tiles[] = {
-        {4, CF_COLUMN, 3, {[11] = 1}, {0}},
-        {5, CF_COLUMN, 0, {[0] = 1, [4] = 1}, {0}},
-        {6, CF_ROW, 0, {[0] = 1, [1] = 1}, {0}},
-        {7, CF_REFUSED, CF_DAMAGED, {[0] = 1, [6] = 1}, {[0] = 1, [6] = 1}},
-        {8, CF_COLUMN, 3, {[0] = 1, [5] = 1}, {[0] = 1, [5] = 1, [3] = 1, [7] = 1, [15] = 1}},
+        {4, CF_KIND_COLUMN, 3, {[11] = 1}, {0}},
+        {5, CF_KIND_COLUMN, 0, {[0] = 1, [4] = 1}, {0}},
+        {6, CF_KIND_ROW, 0, {[0] = 1, [1] = 1}, {0}},
+        {7, CF_KIND_REFUSED, CF_DAMAGED, {[0] = 1, [6] = 1}, {[0] = 1, [6] = 1}},
+        {8, CF_KIND_COLUMN, 3, {[0] = 1, [5] = 1}, {[0] = 1, [5] = 1, [3] = 1, [7] = 1, [15] = 1}},
     };
     for (size_t k = 0; k < sizeof tiles / sizeof tiles[0]; k++) {
         uint8_t tile[TILE];
@@ -63,20 +63,20 @@ static void repaired(void)
     }
 }
 
-/* Tiles 9 and 10: row 0 and column 0 are flagged, and hold what does not matter. */
+/* Tiles 9 and 10: row 0 and column 0 are to be filled, and what they hold does not matter. */
 static void filled(void)
 {
     static const uint8_t nine[TILE] = {0, 1, 0, 1, 1, 1, 0, 0, 1, 0, 0, 0, 1, 0, 0, 0};
     uint8_t tile[TILE] = {9, 8, 7, 6, 5, 1, 0, 0, 4, 0, 0, 0, 3, 0, 0, 0};
     uint64_t said = ask_fill(5, 2, tile, TILE, 0, 0x8000);
-    hold_tile(9, said, answer(CF_DONE, 0), tile, nine);
+    hold_tile(9, said, answer(CF_KIND_DONE, 0), tile, nine);
     const uint8_t ten[TILE] = {9, 8, 7, 6, 5, 0, 0, 0, 4, 0, 0, 1, 3, 0, 0, 0};
     memcpy(tile, ten, TILE);
     said = ask_fill(5, 2, tile, TILE, 0, 0x8000);
-    hold_tile(10, said, answer(CF_REFUSED, CF_DAMAGED), tile, ten);
+    hold_tile(10, said, answer(CF_KIND_REFUSED, CF_DAMAGED), tile, ten);
 }
 
-/* Tile 11: tile 4 with a sheet of one record is tile 1 with a hurt cell, and repair still says column 3. */
+/* Tile 11: a sheet of one record makes tile 1, hurt in a cell, of tile 4, and repair answers column 3 as before. */
 static void corrected(void)
 {
     static const uint8_t sheet[] = {0xC3, 0x3C, 0, 0, 0, 0, 0, 1};
@@ -84,13 +84,13 @@ static void corrected(void)
     static const uint8_t one[TILE] = {1, 0, 0, 1, 0, 0, 1, 1, 0, 0, 1, 0, 0, 0, 1, 0};
     uint8_t tile[TILE] = {[11] = 1};
     uint64_t count, said = ask_correct(5, 2, tile, TILE, sheet, sizeof sheet, &count);
-    hold_tile(11, said, answer(CF_DONE, 0), tile, after);
+    hold_tile(11, said, answer(CF_KIND_DONE, 0), tile, after);
     hold(count == 1, "worked tile 11: the peer counts %u records", (unsigned)count);
     said = ask_repair(5, 2, tile, TILE);
-    hold_tile(11, said, answer(CF_COLUMN, 3), tile, one);
+    hold_tile(11, said, answer(CF_KIND_COLUMN, 3), tile, one);
 }
 
-/* Tiles 12: sizes, slopes, lengths and places on both sides of their edges. */
+/* Number 12: sizes, slopes, lengths and places on both sides of their edges. */
 static void refused(void)
 {
     static const struct {
@@ -103,17 +103,17 @@ static void refused(void)
     static uint8_t zeros[66049];
     for (size_t k = 0; k < sizeof tiles / sizeof tiles[0]; k++) {
         uint64_t said = ask_repair(tiles[k].p, tiles[k].l, zeros, tiles[k].length);
-        uint64_t asked = tiles[k].number == 0 ? answer(CF_DONE, 0) : answer(CF_REFUSED, tiles[k].number);
-        hold(said == asked, "worked tiles 12: the peer says otherwise of p %zu, l %zu", tiles[k].p, tiles[k].l);
+        uint64_t asked = tiles[k].number == 0 ? answer(CF_KIND_DONE, 0) : answer(CF_KIND_REFUSED, tiles[k].number);
+        hold(said == asked, "number 12: the peer says otherwise of p %zu, l %zu", tiles[k].p, tiles[k].l);
     }
     for (uint8_t column = 1; column <= 2; column++) {
         uint8_t sheet[] = {0xC3, 0x3C, 0, 0, 0, column, 0, 0}, tile[TILE] = {0};
         uint64_t count, said = ask_correct(5, 2, tile, TILE, sheet, sizeof sheet, &count);
-        hold(said == (column == 1 ? answer(CF_DONE, 0) : answer(CF_REFUSED, CF_BAD_PLACE)), "worked tiles 12: a correction's column");
+        hold(said == (column == 1 ? answer(CF_KIND_DONE, 0) : answer(CF_KIND_REFUSED, CF_BAD_PLACE)), "number 12: a correction's column");
     }
 }
 
-/* The whole case of the reel: two tiles and one byte more. It is asked at every place, and far behind its end. */
+/* The whole reel: two tiles and one byte more. It is asked at every offset, and far behind its end. */
 static void walked(void)
 {
     static const uint8_t reel[53] = {[0] = 0xD5, [1] = 0x5D, [3] = 5, [5] = 2, [9] = 7, [26] = 0xD5, [27] = 0x5D,
@@ -123,16 +123,16 @@ static void walked(void)
         unsigned kind, first;
         struct found found;
     } places[] = {
-        {0, CF_DONE, 0, {7, 5, 2, 10}},
-        {26, CF_DONE, 0, {8, 5, 2, 36}},
-        {52, CF_REFUSED, CF_CUT_SHORT, {0, 0, 0, 52}},
-        {53, CF_END, 0, {0, 0, 0, 0}},
+        {0, CF_KIND_DONE, 0, {7, 5, 2, 10}},
+        {26, CF_KIND_DONE, 0, {8, 5, 2, 36}},
+        {52, CF_KIND_REFUSED, CF_CUT_SHORT, {0, 0, 0, 52}},
+        {53, CF_KIND_END, 0, {0, 0, 0, 0}},
     };
     for (size_t k = 0; k < sizeof places / sizeof places[0]; k++) {
         struct found found;
         uint64_t said = ask_next(reel, sizeof reel, places[k].at, &found);
         hold(said == answer(places[k].kind, places[k].first) && memcmp(&found, &places[k].found, sizeof found) == 0,
-             "the reel of document 01: the peer says otherwise at %zu", places[k].at);
+             "the reel of SPEC 10: the peer says otherwise at %zu", places[k].at);
     }
     static const size_t far[] = {(size_t)1 << 63, SIZE_MAX - 26, SIZE_MAX - 9, SIZE_MAX - 1, SIZE_MAX};
     struct found found;
@@ -142,7 +142,7 @@ static void walked(void)
         ask_next(reel, sizeof reel, far[k], &found);
 }
 
-/* The house slopes as document 01 lists them, and no other sizes. */
+/* The house slopes as SPEC 2.3 lists them, and no other sizes. */
 static void house_slopes(void)
 {
     static const struct {
@@ -161,8 +161,8 @@ static void house_slopes(void)
         for (size_t n = 0; listed[k].sizes[n] != 0; n++)
             slope_of[listed[k].sizes[n]] = listed[k].slope;
     for (size_t p = 0; p <= 300; p++) {
-        uint64_t asked = slope_of[p] == 0 ? answer(CF_REFUSED, CF_BAD_SIZE) : answer(CF_DONE, slope_of[p]);
-        hold(ask_house_slope(p) == asked, "the house slope of %zu: the peer says otherwise than document 01", p);
+        uint64_t asked = slope_of[p] == 0 ? answer(CF_KIND_REFUSED, CF_BAD_SIZE) : answer(CF_KIND_DONE, slope_of[p]);
+        hold(ask_house_slope(p) == asked, "the house slope of %zu: the peer says otherwise than SPEC 2.3", p);
     }
 }
 

@@ -13,7 +13,7 @@ int main(void)
         void (*cases)(void);
     } subjects[] = {
         {"the header's small functions", cases_header},
-        {"the worked tiles of document 01", cases_worked},
+        {"the worked tiles of SPEC 10", cases_worked},
         {"sizes and slopes", cases_size},
         {"writing and reading", cases_tile},
         {"repair", cases_repair},

@@ -16,7 +16,7 @@ void detail(const char *format, ...);
 /* Ends a difference. After the twentieth it closes the comparison and ends the program. */
 void end_difference(void);
 
-/* Holds something that is no call to what a document says; where it does not hold, that is a difference. */
+/* Holds something beside the comparison to what SPEC or the header says of it; where it does not hold, that is a difference. */
 void hold(int holds, const char *format, ...);
 
 /* Prints the closing line, and gives the exit status. */

@@ -1,11 +1,12 @@
-/* The peer's reel: what stands at a place, read byte by byte. */
+/* The peer's reel, from SPEC 7.2 and, for the bytes of a record, from FORMATS, "The reel": what stands at an offset, read byte by byte. */
 
 #include "peer.h"
 #include "peer_rules.h"
 
+/* SPEC 7.1. */
 enum { HEADER = 10 };
 
-/* A number of some bytes, the high byte first. */
+/* SPEC 1.2. */
 static uint64_t number_of(const uint8_t *bytes, size_t count)
 {
     uint64_t value = 0;
@@ -14,7 +15,7 @@ static uint64_t number_of(const uint8_t *bytes, size_t count)
     return value;
 }
 
-/* Judges a record, of which the given count of bytes is there: 7 for the header, 6, 1, 2, 7 for the body. */
+/* SPEC 7.2, rows 2 to 5, of a record of which so many bytes are there: a header that is cut, the mark, p and l, a tile that is cut. */
 static enum refusal judge_record(const uint8_t *record, size_t there)
 {
     if (there < HEADER)
@@ -28,6 +29,7 @@ static enum refusal judge_record(const uint8_t *record, size_t there)
     return refusal;
 }
 
+/* SPEC 7.2: the end, a no with the offset that was asked for, or a tile. SPEC 11.2 for the four numbers. */
 uint64_t peer_next(const uint8_t *reel, size_t reel_len, size_t at, uint64_t *number, uint64_t *p, uint64_t *l, uint64_t *offset)
 {
     *number = *p = *l = *offset = 0;

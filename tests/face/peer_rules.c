@@ -1,9 +1,10 @@
-/* Sizes, slopes, lengths and answers: see peer_rules.h. */
+/* Sizes, slopes, lengths and answers, from SPEC 2, 3, 9 and 11: see peer_rules.h. */
 
 #include "peer_rules.h"
 
 #include "peer.h"
 
+/* SPEC 2.1: between 5 and 257, and nothing divides it. */
 int is_size(size_t p)
 {
     if (p < 5 || p > LARGEST_SIZE)
@@ -14,6 +15,7 @@ int is_size(size_t p)
     return 1;
 }
 
+/* SPEC 2.2: the p-1 powers from l^0 on are marked by their remainders, and none from 1 to p-1 is missing. */
 int allows(size_t p, size_t l)
 {
     if (l < 2 || l > p - 2)
@@ -30,16 +32,19 @@ int allows(size_t p, size_t l)
     return 1;
 }
 
+/* SPEC 3.1. */
 size_t tile_length(size_t p)
 {
     return (p - 1) * (p - 1);
 }
 
+/* SPEC 3.2. */
 size_t text_length(size_t p)
 {
     return (p - 1) * (p - 3);
 }
 
+/* SPEC 2.4. */
 enum refusal judge_slope(size_t p, size_t l)
 {
     if (!is_size(p))
@@ -49,6 +54,7 @@ enum refusal judge_slope(size_t p, size_t l)
     return ACCEPTED;
 }
 
+/* SPEC 9.2, of a tile's length (SPEC 3.1). */
 enum refusal judge_tile(size_t p, size_t l, size_t tile_len)
 {
     enum refusal refusal = judge_slope(p, l);
@@ -57,6 +63,7 @@ enum refusal judge_tile(size_t p, size_t l, size_t tile_len)
     return refusal;
 }
 
+/* SPEC 11.1, here and down to the end's word. */
 static uint64_t word(uint64_t kind, uint64_t first)
 {
     return (kind << 32) + (first << 16);
@@ -92,8 +99,7 @@ uint64_t word_end(void)
     return word(7, 0);
 }
 
-/* The smallest slope allowed, found by trying. Every size has one: the powers of some l reach all remainders of a prime, and from 5 on
- * neither 1 nor p-1 is such an l. */
+/* SPEC 2.3 and 2.4: the least slope that is allowed, found by trying. Each size has one, as the table of SPEC 2.3 shows. */
 uint64_t peer_house_slope(size_t p)
 {
     if (!is_size(p))
@@ -102,4 +108,11 @@ uint64_t peer_house_slope(size_t p)
     while (!allows(p, slope))
         slope++;
     return word_slope(slope);
+}
+
+/* SPEC 2.4. */
+uint64_t peer_takes(size_t p, size_t l)
+{
+    enum refusal refusal = judge_slope(p, l);
+    return refusal == ACCEPTED ? word_done() : word_refused(refusal);
 }

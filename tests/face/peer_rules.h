@@ -1,4 +1,5 @@
-/* What the peer's files share: sizes, slopes and lengths, the numbers for no, and the word in which a call answers. */
+/* What the peer's files share: sizes and slopes (SPEC 2), lengths (SPEC 3), the numbers for no (SPEC 9), and the word in which a call
+ * answers (SPEC 11.1). */
 
 #ifndef PEER_RULES_H
 #define PEER_RULES_H
@@ -6,28 +7,29 @@
 #include <stddef.h>
 #include <stdint.h>
 
+/* SPEC 2.1, 3.1 and 3.2. */
 enum { LARGEST_SIZE = 257, LARGEST_TILE = 256 * 256, LARGEST_TEXT = 256 * 254 };
 
-/* Document 01, "Numbers for no". ACCEPTED is the judgement that there is nothing to refuse. */
+/* SPEC 9.1. ACCEPTED is the judgement that none of the seven is to be said. */
 enum refusal { ACCEPTED, BAD_SIZE, BAD_SLOPE, BAD_LENGTH, BAD_PLACE, DAMAGED, BAD_MARK, CUT_SHORT };
 
-/* p is a prime from 5 to 257. */
+/* SPEC 2.1. */
 int is_size(size_t p);
 
-/* For a size p: l is from 2 to p-2, and its powers reach each of 1 to p-1. */
+/* SPEC 2.2, for a size p. */
 int allows(size_t p, size_t l);
 
-/* For a size p. */
+/* SPEC 3.1 and 3.2, for a size p. */
 size_t tile_length(size_t p);
 size_t text_length(size_t p);
 
-/* 1 before 2. */
+/* SPEC 2.4, p and l judged together: 1 or 2. */
 enum refusal judge_slope(size_t p, size_t l);
 
-/* 1, 2, 3 for a call that is lent a tile. */
+/* SPEC 9.2, for a call that is lent a tile: 1, 2 or 3. */
 enum refusal judge_tile(size_t p, size_t l, size_t tile_len);
 
-/* The answer's word: kind * 2^32 + first * 2^16 + second. */
+/* SPEC 11.1: kind * 2^32 + first * 2^16 + second. The second is 0 in all of them. */
 uint64_t word_done(void);
 uint64_t word_slope(size_t slope);
 uint64_t word_column(size_t column);

@@ -1,4 +1,5 @@
-/* The peer's correction sheet: judged, made into a text of differences, and that text into the good tile that is added. */
+/* The peer's correction sheet, from SPEC 6 and, for the bytes of a record, from FORMATS, "The correction sheet". It is judged, made into a
+ * text of differences, and that text into the good tile that is added. */
 
 #include <string.h>
 
@@ -6,13 +7,16 @@
 #include "peer_rules.h"
 #include "peer_tile.h"
 
+/* SPEC 6.1. */
 enum { RECORD = 8 };
 
+/* SPEC 1.2. */
 static size_t number(const uint8_t *high_byte)
 {
     return (size_t)high_byte[0] * 256 + high_byte[1];
 }
 
+/* FORMATS; so are the column, and below the mark and the two bytes. */
 static size_t row(const uint8_t *record)
 {
     return number(&record[2]);
@@ -23,6 +27,7 @@ static size_t column(const uint8_t *record)
     return number(&record[4]);
 }
 
+/* SPEC 6.3, of one record: 6 before 4. */
 static enum refusal judge_record(size_t p, const uint8_t *record)
 {
     if (record[0] != 0xC3 || record[1] != 0x3C)
@@ -32,7 +37,7 @@ static enum refusal judge_record(size_t p, const uint8_t *record)
     return ACCEPTED;
 }
 
-/* Judges a sheet, and leaves the offset of the first faulty record, or 0 where no record is concerned. */
+/* SPEC 6.3, of the whole sheet: leaves the offset of the first record with a fault, and otherwise 0. */
 static enum refusal judge_sheet(size_t p, const uint8_t *sheet, size_t sheet_len, uint64_t *offset)
 {
     *offset = 0;
@@ -48,7 +53,7 @@ static enum refusal judge_sheet(size_t p, const uint8_t *sheet, size_t sheet_len
     return ACCEPTED;
 }
 
-/* Each place holds the XOR of the differences given for it, the others zero. */
+/* SPEC 6.2: in each place, what all records that name it change there, taken together. */
 static void text_of_differences(size_t p, const uint8_t *sheet, size_t sheet_len, uint8_t *text)
 {
     memset(text, 0, text_length(p));
@@ -58,6 +63,7 @@ static void text_of_differences(size_t p, const uint8_t *sheet, size_t sheet_len
     }
 }
 
+/* SPEC 6.3 and 6.4; SPEC 11.2 for the number. */
 uint64_t peer_correct(size_t p, size_t l, uint8_t *tile, size_t tile_len, const uint8_t *sheet, size_t sheet_len,
                       uint64_t *count_or_offset)
 {

@@ -1,4 +1,4 @@
-/* Elimination over bits: see peer_system.h. */
+/* Elimination over bits, from SPEC 5.5: see peer_system.h. */
 
 #include "peer_system.h"
 
@@ -27,7 +27,7 @@ struct system {
     const struct equation *leading[MOST_UNKNOWNS]; /* the equation whose first unknown is this one, or none */
 };
 
-/* A cell is on the line row + column, and on the line row + l * column: of these sums the remainder modulo p is taken last. */
+/* SPEC 4.1 and 4.2: a cell is on the lines row + column and row + l * column. The remainder modulo p is taken last. */
 static void find_right_sides(struct given_tile *tile)
 {
     size_t p = tile->p;
@@ -80,7 +80,7 @@ static size_t difference(size_t p, size_t a, size_t b)
     return a < b ? a + p - b : a - b;
 }
 
-/* Where the n-th cell of a strip is. */
+/* SPEC 3.1: where the n-th cell of a strip is. */
 static size_t row_of(struct strip strip, size_t n)
 {
     return strip.is_column ? n : strip.number;
@@ -96,7 +96,7 @@ static size_t place_of(const struct given_tile *tile, struct strip strip, size_t
     return row_of(strip, n) * (tile->p - 1) + column_of(strip, n);
 }
 
-/* The two lines through the n-th cell of a strip, by the numbers of their equations. */
+/* SPEC 4.1: the two lines through the n-th cell of a strip, by the numbers of their equations. */
 static size_t slope_1_line(const struct given_tile *tile, struct strip strip, size_t n)
 {
     return sum(tile->p, row_of(strip, n), column_of(strip, n));
@@ -107,7 +107,7 @@ static size_t slope_l_line(const struct given_tile *tile, struct strip strip, si
     return tile->p + sum(tile->p, row_of(strip, n), tile->l_times[column_of(strip, n)]);
 }
 
-/* Which cell of a strip is on the line of an equation. It is p-1 where only the added row or column would have it. */
+/* SPEC 4.1: which cell of a strip is on the line of an equation. It is p-1 where only the added row or column (SPEC 3.3) would have it. */
 static size_t cell_on_line(const struct given_tile *tile, struct strip strip, size_t equation)
 {
     size_t p = tile->p;
@@ -118,6 +118,7 @@ static size_t cell_on_line(const struct given_tile *tile, struct strip strip, si
     return tile->l_divides[difference(p, equation - p, strip.number)];
 }
 
+/* SPEC 5.4: one line is told by naming it twice. */
 static int is_same(struct strip first, struct strip second)
 {
     return first.is_column == second.is_column && first.number == second.number;
@@ -149,8 +150,8 @@ static void take_in(struct equation *equation, size_t unknown)
     equation->coefficients[unknown / 64] |= (uint64_t)1 << unknown % 64;
 }
 
-/* The equation of a line as the definition has it: an unknown cell has a coefficient, and its byte no longer counts. The common byte is
- * the last unknown, and stands in each. */
+/* The equation of a line, from SPEC 5.5: an unknown cell has a coefficient, and its byte no longer counts. The common byte is the last
+ * unknown, and stands in each. */
 static void write_down(const struct system *system, struct equation *equation, size_t line)
 {
     for (size_t word = 0; word < system->words; word++)
@@ -230,7 +231,7 @@ static uint8_t substituted(const struct system *system, const uint8_t *byte, siz
 {
     const struct equation *equation = system->leading[unknown];
     if (equation == NULL) {
-        fprintf(stderr, "the peer: an unknown is left free, though a good tile is settled by what is given\n");
+        fprintf(stderr, "the peer: an unknown is left free, though by SPEC 4.5 there are no two such tiles\n");
         exit(2);
     }
     uint8_t value = equation->right_side;

@@ -1,8 +1,9 @@
-/* The definition of a good tile as a system of linear equations, and its solution by elimination.
+/* The good tile of SPEC 4 as a system of linear equations, and its solution by elimination, from SPEC 5.5.
  *
- * Each of the 2p lines is an equation: the XOR of the line's cells is the common byte. The unknowns are the bytes of some cells, and the
- * common byte; the other cells' bytes make the right sides. A coefficient is a bit; a right side is a byte, so that one elimination serves
- * the eight bits of a byte at once. The added row and column of zeros are in no equation, for a zero adds nothing to an XOR. */
+ * A line is a diagonal here (SPEC 4.1), and a strip is a row or a column. Each of the 2p lines is an equation: the XOR of the line's cells
+ * is the common byte, b in SPEC 4.3. The unknowns are the bytes of some cells, and the common byte; the other cells' bytes make the right
+ * sides. A coefficient is a bit; a right side is a byte, so that one elimination serves the eight bits of a byte at once. The added zeros
+ * (SPEC 3.3) are in no equation, for a zero adds nothing to an XOR. */
 
 #ifndef PEER_SYSTEM_H
 #define PEER_SYSTEM_H
@@ -12,8 +13,8 @@
 
 #include "peer_rules.h"
 
-/* A tile with the right sides of its equations while no cell is unknown, the XOR of the bytes on each line: the slope-1 lines first,
- * then those of slope l. */
+/* A tile with the right sides of its equations while no cell is unknown, which are the sums of SPEC 4.2: the lines of slope 1 first, then
+ * those of slope l. */
 struct given_tile {
     size_t p;
     const uint8_t *bytes;
@@ -23,18 +24,18 @@ struct given_tile {
     size_t in_order[2 * LARGEST_SIZE]; /* the lines, in the order in which elimination takes their equations */
 };
 
-/* For a size p and a slope l that it allows. */
+/* For a size p and a slope l that is allowed there. */
 void give_tile(struct given_tile *tile, size_t p, size_t l, const uint8_t *bytes);
 
-/* A row or a column. */
+/* A row or a column, which SPEC 3.4 calls a line of the tile. */
 struct strip {
     int is_column;
     size_t number;
 };
 
 /* Finds the bytes that the cells of some strips, none, one or two, must have for the tile to be good. What it holds there does not matter.
- * They are laid into a copy of the tile's bytes, or into these themselves. Gives 0 where there are no such bytes, and otherwise 1. Document
- * 01 leaves no choice between two solutions: the program is stopped if there is one. */
+ * They are laid into a copy of the tile's bytes, or into these themselves. Gives 0 where there are no such bytes, and otherwise 1. By
+ * SPEC 4.5 there are never two solutions: where an unknown is left free, the program is stopped. */
 int solve(const struct given_tile *tile, const struct strip *strips, size_t count, uint8_t *copy);
 
 #endif

@@ -1,4 +1,4 @@
-/* What the peer's sheet needs of its tile calls. */
+/* What the peer's sheet (SPEC 6.4) needs of its tile calls. */
 
 #ifndef PEER_TILE_H
 #define PEER_TILE_H
@@ -6,7 +6,7 @@
 #include <stddef.h>
 #include <stdint.h>
 
-/* Makes the good tile with the given text, for a size p and a slope l that it allows. */
+/* SPEC 5.1, without the judgement: makes the good tile that has the text, for a size p and a slope l that is allowed there. */
 void make_good(size_t p, size_t l, const uint8_t *text, uint8_t *tile);
 
 #endif

@@ -91,7 +91,7 @@ fn rows(p: usize, l: usize, r: usize, s: usize, a: &[u8; 257], b: &[u8; 257]) ->
     columns(p, turn::inverse(p, l), r, s, a, &turn::turned(p, l, b))
 }
 
-// Two columns always have a filling; one column, named twice, may have none.
+// Two columns, for which there is a filling whatever the sums; or one column, named twice, for which there need not be.
 fn columns(p: usize, l: usize, u: usize, v: usize, a: &[u8; 257], b: &[u8; 257]) -> Filling
     requires { ⌜ Slope p l ⌝ }
     requires { ⌜ (p ≤ 257) × (u < p - 1) × (v < p - 1) × (xorBelow p (held (now a)) ≡ xorBelow p (held (now b))) ⌝ }

@@ -1,5 +1,5 @@
-// A hurt column together with a second hurt line, a column or a row. A slope-1 line gives a symbol of the second line, the
-// slope-l line through it gives a symbol of the column, and so on; the column's added zero starts the chain.
+// A hurt column together with a second hurt line, a column or a row. The chain between them begins at the column's added zero. By a
+// line of slope 1 it comes to a symbol of the second line, from there by a line of slope l to one of the column, and so further.
 use code::Line;
 use search::column::along;
 use search::column::without_common;

@@ -119,7 +119,7 @@ equal-tiles p l a b x y S h ex ey gx gy same =
     off = within-off p (kept p a) (kept p b) (difference p x y) (difference-padded p x y) (λ i j hi hj d e.
         ap (λ (z : ℕ). z ⊕ cell p y i j) (same i j hi hj (λ o. d (kept-on p a i j hi hj o)) (λ o. e (kept-on p b i j hi hj o))) ∙ self _)
 
--- THE DISTANCE, as document 01's slopes have it
+-- THE DISTANCE, for a size and an allowed slope (SPEC 4.5)
 pub distance : (p l : ℕ) (a b : Line) (x y : List ℕ) → Size p → Allowed p l
     → length x ≡ tileLength p → length y ≡ tileLength p → Good p l x → Good p l y → EqualOutsideBoth p a b x y → x ≡ y
 distance p l a b x y s w = equal-tiles p l a b x y (allowed-slope p l s w) (inr (w .reach))

@@ -66,7 +66,7 @@ crossed-closing p l s t A B S all hs ht e cross = record {
 
 module _ (p l c : ℕ) (b : Line) (A B : ℕ → ℕ) (n : ℕ) (walk stop : ℕ → ℕ) (S : Slope p l) (closing : Closing p l c b A B n walk stop) where
   -- THE CHAIN GIVES IT: whoever starts from x(p-1) = 0 and takes all steps but the last has the change in the column; `shifted` of what it
-  -- leaves is the change in b. For two columns this is the chain x(m + d), for a row with a column the paper's (24) to (29)
+  -- leaves is the change in b. In two columns this is the chain x(m + d), in a row and a column it is (24) to (29) of the paper
   pub by-chain : (x : ℕ → ℕ) → c < p → number b < p → x (p - 1) ≡ 0
       → ((k : ℕ) → k + 1 < n → x (walk (k + 1)) ≡ x (walk k) ⊕ hop p l A B c walk k) → Settles p l A B (change p A c b x)
   by-chain x hc hb z next =

@@ -1,5 +1,6 @@
--- FILLING, of lists of bytes: which good tiles agree with a given tile outside one or two lines. Two columns or two rows always have
--- exactly one filling; a row with a column, and one line alone, have at most one, and have it exactly if the sums agree. Assumes nothing.
+-- FILLING, of lists of bytes: which good tiles agree with a given tile outside one or two lines (SPEC 5.4). In two columns, and in two
+-- rows, there is exactly one; in a row with a column, and in one line, there is at most one, and there is one exactly if the sums agree.
+-- Assumes nothing.
 use mathlib.Core.Path.{_≡_, refl, sym, ap, _∙_}
 use mathlib.Core.Logic.{_≢_, _⊎_, _↔_}
 use mathlib.Core.List.{List}

@@ -1,4 +1,5 @@
--- Good tiles, as lists of bytes: they are closed under XOR, and the same line named twice counts as one line. Assumes nothing.
+-- Good tiles, as lists of bytes: they are closed under XOR, and to agree outside a line is to do so outside that line named
+-- twice. Assumes nothing.
 use mathlib.Core.Logic.{_↔_}
 use mathlib.Core.Path.{_≡_, sym}
 use mathlib.Core.List.{List}

@@ -1,6 +1,6 @@
 -- One hurt line: a line's change settles the sums A and B exactly if they agree along the line, and then the change is the shifted
--- sum with the common byte taken off, which is the sum where the line meets an added zero. Shown for columns, carried to rows by
--- turning. Assumes nothing.
+-- sum with the common byte taken off, the sum through the line's added zero (SPEC 5.5). Shown for columns, carried to rows by turning.
+-- Assumes nothing.
 use mathlib.Core.Path.{_≡_, refl, sym, ap, ap₂, _∙_}
 use Prim.Native.Nat.{ℕ, _-_, _*_, _%_, _<_}
 use native.Mathlib.Nat.{mod-lt}
@@ -17,7 +17,7 @@ use Rattle.code.specs.Turn.{turned, turned-line, settles-turned, turned-
 use Rattle.code.specs.declared.Line.{Line}
 use Rattle.code.specs.declared.Line.the-variants.{Row, Column}
 
--- the number of a line
+-- SPEC 3.4: the number of a line, row or column
 abbrev pub number : Line → ℕ
 number (Row r) = r
 number (Column c) = c

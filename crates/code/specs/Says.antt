@@ -1,11 +1,11 @@
--- WHAT A READER MUST BELIEVE: what a call that answers true or false promises. Assumes nothing.
+-- WHAT A READER MUST BELIEVE: what a call that answers true or false promises (SPEC 2.4). Assumes nothing.
 use mathlib.Core.Path.{_≡_, refl, subst}
 use mathlib.Core.Bool.{Bool, true, false}
 use Prim.Native.Nat.{ℕ}
 use lib.Dec.{eqb}
 use borrow.Author.Tests.{eqb-true, eqb-false}
 
--- a bool says whether A holds: it is true exactly if A does
+-- SPEC 2.4: yes or no, as a bool that says whether A holds: it is true exactly if A does
 abbrev pub Says : Bool → Type 0 → Type 0
 Says true A = A
 Says false A = A → ⊥

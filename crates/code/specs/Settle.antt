@@ -1,5 +1,5 @@
--- A change D settles sums A and B: added to a tile whose slope-1 sums are A and whose slope-l sums are B, it makes all 2p sums one
--- byte. So every question about a hurt tile is asked of the change that makes it good, and of the tile's sums alone. Assumes nothing.
+-- A change D settles sums A and B: added to a tile whose slope-1 sums are A and whose slope-l sums are B, it makes one byte of all
+-- of them. So every question about a hurt tile is asked of the change that makes it good, and of the tile's sums alone. Assumes nothing.
 use mathlib.Core.Path.{_≡_, sym, ap, _∙_}
 use Prim.Native.Nat.{ℕ, _<_}
 use Rattle.xor.specs.Xor.{_⊕_, xors, zero-l, from₂}

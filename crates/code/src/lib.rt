@@ -1,7 +1,7 @@
 // What a good tile is, and the paper's theorems about it, stand in specs/. There is no code here: only the one type that
 // definitions and calls share.
 
-// A line of a tile: a row or a column, by its number from 0.
+// SPEC 3.4: a line of a tile, which is a row or a column, by its number from 0.
 pub enum Line {
     Row(usize),
     Column(usize),

@@ -6,9 +6,9 @@ use Prim.Native.Nat.{ℕ, _/_, _%_}
 use native.Mathlib.Omega.{arith}
 use Rattle.word.specs.Word.{Answer, answer, word, sizeAnswer, tileAnswer}
 use Rattle.counterfrost.specs.Numbers.{sheetAnswer, reelAnswer}
-use Rattle.counterfrost.specs.Calls.{Worded, HouseWorded, WriteWorded, ReadWorded, RepairWorded, FillWorded, CorrectWorded, NextWorded}
+use Rattle.counterfrost.specs.Calls.{Worded, HouseWorded, TakesWorded, WriteWorded, ReadWorded, RepairWorded, FillWorded, CorrectWorded, NextWorded}
 use Rattle.word.specs.Fits.{Fits}
-use Rattle.counterfrost.specs.Fits.{house-fits, write-fits, read-fits, repair-fits, fill-fits, correct-fits, next-fits}
+use Rattle.counterfrost.specs.Fits.{house-fits, takes-fits, write-fits, read-fits, repair-fits, fill-fits, correct-fits, next-fits}
 
 -- `cf_kind`, `cf_first` and `cf_second`: the word shifted by 32 bits, its next 16 bits, its last 16
 abbrev pub kindOf : ℕ → ℕ
@@ -35,6 +35,9 @@ tells {Said} {answerOf} f t =
 
 pub house-tells : {p w : ℕ} (t : HouseWorded p w) → Tells w (sizeAnswer (t .said))
 house-tells t = tells (λ said h. house-fits h) t
+
+pub takes-tells : {p l w : ℕ} (t : TakesWorded p l w) → Tells w (sizeAnswer (t .said))
+takes-tells t = tells (λ said h. takes-fits h) t
 
 pub write-tells : {p l w : ℕ} {text x y : List ℕ} (t : WriteWorded p l text x w y) → Tells w (tileAnswer (t .said))
 write-tells t = tells (λ said h. write-fits h) t

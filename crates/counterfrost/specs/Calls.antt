@@ -1,26 +1,30 @@
--- WHAT A READER MUST BELIEVE: what each call of the C library promises. Nothing is said again: each promise is that of the call which it
--- wraps, and that the word, and the numbers that it leaves, stand for what is said there. Assumes nothing.
+-- WHAT A READER MUST BELIEVE: what each call of the C library promises (SPEC 11). Nothing is said again: each promise is that of the call
+-- which it wraps, and that the word, and the numbers that it leaves, stand for what is said there. Assumes nothing.
 use mathlib.Core.Path.{_≡_}
 use mathlib.Core.List.{List}
 use Prim.Native.Nat.{ℕ}
-use Rattle.size.specs.Answer.{HouseTold}
+use Rattle.size.specs.Answer.{HouseTold, Judged}
 use Rattle.promise.specs.Calls.{WriteTold, ReadTold, RepairTold, FillTold}
 use Rattle.sheet.specs.Calls.{CorrectTold}
 use Rattle.reel.specs.Calls.{NextTold}
 use Rattle.word.specs.Word.{Answer, word, sizeAnswer, tileAnswer, lineOf}
 use Rattle.counterfrost.specs.Numbers.{sheetAnswer, countOrOffset, reelAnswer, tileNumber, tileSize, tileSlope, offset}
 
--- the word w is the answer to something that is rightly said
+-- SPEC 11.1: the word w is the answer to something that is rightly said
 pub record Worded {Said : Type 0} (answerOf : Said → Answer) (Right : Said → Type 0) (w : ℕ) : Type 0 where
   pub said : Said
   pub right : Right said
   pub is : w ≡ word (answerOf said)
 
--- the house slope of p
+-- SPEC 11.1 and 2.4: the house slope of p
 abbrev pub HouseWorded : ℕ → ℕ → Type 0
 HouseWorded p = Worded sizeAnswer (HouseTold p)
 
--- a tile call that leaves the bytes x
+-- SPEC 11.1 and 2.4: how p and l are judged
+abbrev pub TakesWorded : ℕ → ℕ → ℕ → Type 0
+TakesWorded p l = Worded sizeAnswer (Judged p l)
+
+-- SPEC 11.1 and 5.1 to 5.4: a tile call that leaves the bytes x. The lines to fill go in as numbers, by 11.3
 abbrev pub WriteWorded : ℕ → ℕ → List ℕ → List ℕ → ℕ → List ℕ → Type 0
 WriteWorded p l text tile w x = Worded tileAnswer (λ s. WriteTold p l text tile s x) w
 
@@ -33,11 +37,11 @@ RepairWorded p l tile w x = Worded tileAnswer (λ s. RepairTold p l tile s x) w
 abbrev pub FillWorded : ℕ → ℕ → List ℕ → ℕ → ℕ → ℕ → List ℕ → Type 0
 FillWorded p l tile first second w x = Worded tileAnswer (λ s. FillTold p l tile (lineOf first) (lineOf second) s x) w
 
--- a correction that leaves the tile x, and the number n
+-- SPEC 11.1, 11.2, 6.3 and 6.4: a correction that leaves the tile x, and the number n
 abbrev pub CorrectWorded : ℕ → ℕ → List ℕ → List ℕ → ℕ → List ℕ → ℕ → Type 0
 CorrectWorded p l tile sheet w x n = Worded sheetAnswer (λ s. CorrectTold p l tile sheet s x × (n ≡ countOrOffset s)) w
 
--- what stands at a place, in four numbers
+-- SPEC 11.1, 11.2 and 7.2: what stands at a place, in four numbers
 abbrev pub NextWorded : List ℕ → ℕ → ℕ → ℕ → ℕ → ℕ → ℕ → Type 0
 NextWorded reel at w number p l from =
     Worded reelAnswer (λ s. NextTold reel at s × (number ≡ tileNumber s) × (p ≡ tileSize s) × (l ≡ tileSlope s) × (from ≡ offset s)) w

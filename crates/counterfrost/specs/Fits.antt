@@ -24,6 +24,11 @@ judged-fits : {p l n : ℕ} → size.Judged p l (size.refused n) → Fits (refus
 judged-fits (size.no-size f) = (omega arith, omega arith)
 judged-fits (size.no-slope s f) = (omega arith, omega arith)
 
+pub takes-fits : {p l : ℕ} {said : size.Said} → size.Judged p l said → Fits (sizeAnswer said)
+takes-fits (size.taken s a) = (omega arith, omega arith)
+takes-fits (size.no-size f) = (omega arith, omega arith)
+takes-fits (size.no-slope s f) = (omega arith, omega arith)
+
 admitted-fits : {p l n : ℕ} {Lengths : Type 0} → Admitted p l Lengths (size.refused n) → Fits (refusal n)
 admitted-fits (judged j) = judged-fits j
 admitted-fits (no-length j f) = (omega arith, omega arith)

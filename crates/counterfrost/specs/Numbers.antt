@@ -1,10 +1,11 @@
--- WHAT A READER MUST BELIEVE: the answer and the numbers that stand for what a correction and a reel say. Assumes nothing.
+-- WHAT A READER MUST BELIEVE: the answer and the numbers that stand for what a correction and a reel say (SPEC 11.1 and 11.2).
+-- Assumes nothing.
 use Prim.Native.Nat.{ℕ}
 use Rattle.sheet.specs.Answer as sheet
 use Rattle.reel.specs.Answer as reel
 use Rattle.word.specs.Word.{Answer, answer, done, refusal}
 
--- what a correction says: "the count, or a refusal's offset, in `*count_or_offset`"
+-- SPEC 11.1 and 11.2: what a correction says, and the number that it sets: the count of records, or the offset of a refusal
 abbrev pub sheetAnswer : sheet.Said → Answer
 sheetAnswer (sheet.corrected n) = done
 sheetAnswer (sheet.refused n at) = refusal n
@@ -13,12 +14,13 @@ abbrev pub countOrOffset : sheet.Said → ℕ
 countOrOffset (sheet.corrected n) = n
 countOrOffset (sheet.refused n at) = at
 
--- what stands at a place of a reel: "0 in what it has no value for, and a refusal's offset in `*offset`"
+-- SPEC 11.1: what stands at a place of a reel; the end is kind 7
 abbrev pub reelAnswer : reel.Said → Answer
 reelAnswer (reel.tile number p l from) = done
 reelAnswer reel.end = answer 7 0 0
 reelAnswer (reel.refused n from) = refusal n
 
+-- SPEC 11.2: the four numbers that it sets. A refusal has its offset alone and the end has none: the others are 0
 abbrev pub tileNumber : reel.Said → ℕ
 tileNumber (reel.tile number p l from) = number
 tileNumber reel.end = 0

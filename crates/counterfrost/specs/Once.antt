@@ -2,13 +2,13 @@
 use mathlib.Core.Path.{_≡_, sym, ap, _∙_}
 use mathlib.Core.List.{List}
 use Prim.Native.Nat.{ℕ}
-use Rattle.size.specs.Once.{house-told-once}
+use Rattle.size.specs.Once.{house-told-once, judged-told-once}
 use Rattle.promise.specs.Once.{write-told-once, read-told-once, repair-told-once, fill-told-once}
 use Rattle.sheet.specs.Once.{correct-told-once}
 use Rattle.reel.specs.Once.{next-told-once}
 use Rattle.word.specs.Word.{Answer, word, lineOf}
 use Rattle.counterfrost.specs.Numbers.{countOrOffset, tileNumber, tileSize, tileSlope, offset}
-use Rattle.counterfrost.specs.Calls.{Worded, HouseWorded, WriteWorded, ReadWorded, RepairWorded, FillWorded, CorrectWorded, NextWorded}
+use Rattle.counterfrost.specs.Calls.{Worded, HouseWorded, TakesWorded, WriteWorded, ReadWorded, RepairWorded, FillWorded, CorrectWorded, NextWorded}
 
 -- where one thing is said, it has one word
 one-word : {Said : Type 0} {answerOf : Said → Answer} {Right Right′ : Said → Type 0} {v w : ℕ} (t : Worded answerOf Right v)
@@ -17,6 +17,9 @@ one-word {Said} {answerOf} t u e = t .is ∙ ap (λ (s : Said). word (answerOf s
 
 pub house-word-once : (p v w : ℕ) → HouseWorded p v → HouseWorded p w → v ≡ w
 house-word-once p v w t u = one-word t u (house-told-once p (t .said) (u .said) (t .right) (u .right))
+
+pub takes-word-once : (p l v w : ℕ) → TakesWorded p l v → TakesWorded p l w → v ≡ w
+takes-word-once p l v w t u = one-word t u (judged-told-once p l (t .said) (u .said) (t .right) (u .right))
 
 pub write-word-once : (p l : ℕ) (text tile : List ℕ) (v w : ℕ) (x y : List ℕ) → WriteWorded p l text tile v x → WriteWorded p l text tile w y
     → (v ≡ w) × (x ≡ y)

@@ -22,9 +22,10 @@ use Rattle.sheet.specs.Worked.{sheet-11, tile-11}
 use Rattle.reel.specs.Answer as reel
 use Rattle.reel.specs.Worked as reel-case
 use Rattle.reel.specs.Worked.{whole-case}
+use Rattle.word.specs.Version.{version}
 use Rattle.word.specs.Word.{answer, word, done, refusal, lineOf}
-use Rattle.counterfrost.specs.Calls.{HouseWorded, WriteWorded, ReadWorded, RepairWorded, FillWorded, CorrectWorded, NextWorded}
-use Rattle.counterfrost.specs.Once.{house-word-once, write-word-once, read-word-once, repair-word-once, fill-word-once, correct-word-once, next-word-once}
+use Rattle.counterfrost.specs.Calls.{HouseWorded, TakesWorded, WriteWorded, ReadWorded, RepairWorded, FillWorded, CorrectWorded, NextWorded}
+use Rattle.counterfrost.specs.Once.{house-word-once, takes-word-once, write-word-once, read-word-once, repair-word-once, fill-word-once, correct-word-once, next-word-once}
 
 -- a good tile was written, and a tile that is repaired by a row is explained by it
 written-good : {p l : ℕ} {text x y : List ℕ} → WriteTold p l text x tile.done y → Good p l y
@@ -49,6 +50,36 @@ first-misplaced t = omega (arith, house-word-once 5 (word (answer 0 2 0)) 2 hous
 pub refusal-told-done : HouseWorded 4 (word (answer 0 1 0)) → ⊥
 refusal-told-done t = omega (arith, house-word-once 4 (word (refusal 1)) (word (answer 0 1 0)) house-4 t)
 
+-- ---- the judgement of a size and a slope
+
+taken-5-2 : TakesWorded 5 2 (word done)
+taken-5-2 = record { said = size.well; right = size.taken size-5 at-5-2; is = refl }
+
+-- neither 4 is a size, nor 0 a slope
+refused-4 : TakesWorded 4 0 (word (refusal 1))
+refused-4 = record { said = size.refused 1; right = size.no-size (λ s. omega (arith, s .low)); is = refl }
+
+-- one that takes the slope for the size
+pub takes-exchanged : TakesWorded 5 2 (word (refusal 1)) → ⊥
+takes-exchanged t = omega (arith, takes-word-once 5 2 (word done) (word (refusal 1)) taken-5-2 t)
+
+-- one that takes everything
+pub takes-everything : TakesWorded 4 0 (word done) → ⊥
+takes-everything t = omega (arith, takes-word-once 4 0 (word (refusal 1)) (word done) refused-4 t)
+
+-- one that looks at the slope first
+pub takes-slope-first : TakesWorded 4 0 (word (refusal 2)) → ⊥
+takes-slope-first t = omega (arith, takes-word-once 4 0 (word (refusal 1)) (word (refusal 2)) refused-4 t)
+
+-- ---- the version
+
+-- a library that says the version before this one, and one that says none
+pub version-stale : _≡_ {A = ℕ} 100 version → ⊥
+version-stale e = omega (arith, e)
+
+pub version-missing : _≡_ {A = ℕ} 0 version → ⊥
+version-missing e = omega (arith, e)
+
 -- ---- write and read
 
 written-1 : WriteWorded 5 2 text-1 zeros (word done) tile-1
@@ -58,7 +89,7 @@ written-1 = record { said = tile.done; right = tile-case.claimed 1 .0 zeros refl
 pub write-exchanged : (x : List ℕ) → WriteWorded 5 2 text-1 zeros (word (refusal 1)) x → ⊥
 write-exchanged x t = omega (arith, write-word-once 5 2 text-1 zeros (word done) (word (refusal 1)) tile-1 x written-1 t .0)
 
--- one that copies the text and leaves the checks
+-- one that lays the text in and makes no checks
 pub write-copies : (w : ℕ) → WriteWorded 5 2 text-1 zeros w copied-1 → ⊥
 write-copies w t =
     let e = write-word-once 5 2 text-1 zeros (word done) w tile-1 copied-1 written-1 t .1 in let z : _≡_ {A = ℕ} 0 1 = cc in omega arith

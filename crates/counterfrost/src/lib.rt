@@ -9,7 +9,8 @@ ghost use Rattle.size.specs.Answer.{houseSaid};
 ghost use Rattle.promise.specs.Answer.{repairSaid};
 ghost use Rattle.word.specs.Word as spec;
 ghost use Rattle.word.specs.Fits.{Fits};
-ghost use Rattle.counterfrost.specs.Calls.{HouseWorded, WriteWorded, ReadWorded, RepairWorded, FillWorded, CorrectWorded, NextWorded};
+ghost use Rattle.word.specs.Version.{version};
+ghost use Rattle.counterfrost.specs.Calls.{HouseWorded, TakesWorded, WriteWorded, ReadWorded, RepairWorded, FillWorded, CorrectWorded, NextWorded};
 
 // The house slope of the size p.
 #[no_mangle]
@@ -19,7 +20,15 @@ pub extern "C" fn cf_house_slope(p: usize) -> u64
     of_house(size::house_slope(p))
 }
 
-// Writes the one good tile with that text.
+// Is p a size that allows the slope l? If not, why not.
+#[no_mangle]
+pub extern "C" fn cf_takes(p: usize, l: usize) -> u64
+    ensures { λ r. ⌜ TakesWorded p l r ⌝ }
+{
+    word::of_judgement(size::judge(p, l))
+}
+
+// Writes the good tile that has the text.
 #[no_mangle]
 pub extern "C" fn cf_write(p: usize, l: usize, text: &[u8], tile: &mut [u8]) -> u64
     ensures { λ r. ⌜ WriteWorded p l (now (text .entry)) (now (tile .entry)) r (now (tile .exit)) ⌝ }
@@ -27,7 +36,7 @@ pub extern "C" fn cf_write(p: usize, l: usize, text: &[u8], tile: &mut [u8]) -> 
     word::of_outcome(tile::write(p, l, text, tile))
 }
 
-// Reads the text of a good tile.
+// Reads the text out of a good tile.
 #[no_mangle]
 pub extern "C" fn cf_read(p: usize, l: usize, tile: &[u8], text: &mut [u8]) -> u64
     ensures { λ r. ⌜ ReadWorded p l (now (tile .entry)) (now (text .entry)) r (now (text .exit)) ⌝ }
@@ -104,6 +113,14 @@ pub extern "C" fn cf_next(
             word::refused(refusal)
         }
     }
+}
+
+// The version of this library.
+#[no_mangle]
+pub extern "C" fn cf_version() -> u64
+    ensures { λ r. ⌜ r ≡ version ⌝ }
+{
+    word::version()
 }
 
 // What the house slope's call answers.

@@ -1,4 +1,4 @@
--- A quick test of a slope, which antt computes: it is from 2 to p - 2, and no power of it from the first to the (p - 2)-th is 1.
+-- A quick test of a slope, which antt computes: it lies between 2 and p - 2, and no power of it from the first to the (p - 2)-th is 1.
 -- For a prime p it says which slopes are allowed. Assumes nothing.
 use mathlib.Core.Path.{_≡_, ap, sym, _∙_}
 use mathlib.Core.Logic.{_≢_, ⊎-elim}

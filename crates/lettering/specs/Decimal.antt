@@ -34,7 +34,7 @@ module _ (P : ℕ → List ℕ → Type 0) (one : (n : ℕ) → n < 10 → P n (
 
 -- ---- what `io::decimal` makes
 
--- its sign for a digit is document 01's
+-- its sign for a digit is that of a listing's lines
 glyph-is : (d : ℕ) → d < 10 → glyph d ≡ digit d
 glyph-is d h = rw (lt-ltb d 10 h)
 

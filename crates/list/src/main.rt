@@ -47,7 +47,7 @@ fn complain(words: &[u8]) {
 // Says so where something was not written.
 fn report(is_written: bool) {
     if !is_written {
-        complain(b"list: the listing could not be written\n");
+        complain(b"counterfrost-list: the listing could not be written\n");
     }
 }
 
@@ -57,6 +57,6 @@ fn main() {
     match input {
         Input::Whole(n) => report(listing::print(&bytes[..n])),
         Input::TooLong => report(io::write_all(STDOUT_FILENO, b"too long\n")),
-        Input::Failed => complain(b"list: the input could not be read\n"),
+        Input::Failed => complain(b"counterfrost-list: the input could not be read\n"),
     }
 }

@@ -1,4 +1,4 @@
--- WHAT A READER MUST BELIEVE: which lines the listing of a reel has, in the words of document 01. Assumes nothing.
+-- WHAT A READER MUST BELIEVE: which lines the listing of a reel has (SPEC 8.1). Assumes nothing.
 use mathlib.Core.List.{List}
 use Prim.Native.Nat.{ℕ}
 use lib.ListN.{length, take, drop}
@@ -10,18 +10,17 @@ use Rattle.reel.specs.Calls.{NextTold}
 use Rattle.reel.specs.Walk.{WalkByPlace}
 use Rattle.lettering.specs.Line.{tileLine, endLine, stoppedLine}
 
--- what repair says of these very bytes; what they would become is not listed
+-- SPEC 8.1 and 5.3: what repair says of these very bytes; what they would become is not listed
 pub record RepairSays (p l : ℕ) (bytes : List ℕ) (said : repair.Said) : Type 0 where
   pub new : List ℕ
   pub told : RepairTold p l bytes said new
 
--- "For each tile it prints one line: number, p, l, then" what repair says: the line of the tile at a place
+-- SPEC 8.1: the line of the tile at a place
 pub data TileListed (reel : List ℕ) (at : ℕ) : List ℕ → Type 0 where
   lists : {number p l from : ℕ} {said : repair.Said} → NextTold reel at (tile number p l from) → RepairSays p l (take (tileLength p) (drop from reel)) said
       → TileListed reel at (tileLine number p l said)
 
--- "At the end it prints `end` and the count of tiles; at a refusal instead `stopped`, the refusal's number and the record's offset." "The
--- listing goes on only where the answer is a tile": it walks along the reel from its first byte on
+-- SPEC 8.1: the line that closes the listing, by what ended the walk along the reel from its first byte on: the end, or a refusal
 pub data Closes (reel : List ℕ) : List ℕ → Type 0 where
   ends : {tiles : List Said} → WalkByPlace reel 0 tiles end → Closes reel (endLine (length tiles))
   stops : {tiles : List Said} {n at : ℕ} → WalkByPlace reel 0 tiles (refused n at) → Closes reel (stoppedLine n at)

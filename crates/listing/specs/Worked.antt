@@ -1,4 +1,4 @@
--- The whole case of document 01 line by line, its empty input, the other answers, and the numbers at the edges. Assumes nothing.
+-- SPEC 10, the whole reel line by line; the empty reel, the other answers, and the numbers at the edges. Assumes nothing.
 use mathlib.Core.Path.{_≡_, refl}
 use mathlib.Core.List.{List, [], _∷_}
 use Prim.Native.Nat.{ℕ}
@@ -31,7 +31,7 @@ pub stopped-7 : stoppedLine 7 52 ≡ ascii "stopped 7 52\n"
 unfolding stoppedLine decimal digitsUpTo
 stopped-7 = refl
 
--- "An empty input gives `end 0`."
+-- the empty reel has no tiles (SPEC 7.1)
 pub end-0 : endLine 0 ≡ ascii "end 0\n"
 unfolding endLine decimal digitsUpTo
 end-0 = refl
@@ -49,7 +49,7 @@ pub largest : decimal 18446744073709551615 ≡ ascii "18446744073709551615"
 unfolding decimal digitsUpTo
 largest = refl
 
--- ---- the whole case: "tile 7, p 5, l 2, sixteen zeros; tile 8 likewise, but 41 hex at row 2, column 3; then one byte 00"
+-- ---- the whole reel of SPEC 10: tile 7 of zeros, tile 8 with the byte 41 hex in cell (2, 3), and a lone byte 00
 
 abbrev hurt : List ℕ
 hurt = 0 ∷ 0 ∷ 0 ∷ 0 ∷ 0 ∷ 0 ∷ 0 ∷ 0 ∷ 0 ∷ 0 ∷ 0 ∷ 0x41 ∷ 0 ∷ 0 ∷ 0 ∷ 0 ∷ []
@@ -79,7 +79,7 @@ closing-line =
     let line = rw stopped-7 at (stops walked) in
     (line, λ other said. closes-once said line)
 
--- and that of the empty input
+-- and that of the empty reel
 pub empty : Only (Closes []) (ascii "end 0\n")
 empty =
     let line = rw end-0 at (reached-ends (reached-first []) (ends (omega arith))) in

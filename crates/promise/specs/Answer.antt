@@ -1,5 +1,4 @@
--- WHAT A READER MUST BELIEVE: the answer that each case of the enums `Outcome` and `Repaired` stands for, in the words of document 01.
--- Assumes nothing.
+-- WHAT A READER MUST BELIEVE: the answer that each case of the enums `Outcome` and `Repaired` stands for (SPEC 5). Assumes nothing.
 use Prim.Native.Nat.{ℕ}
 use Rattle.size.specs.Refusal.{numberOf}
 use Rattle.promise.specs.declared.Outcome.{Outcome}
@@ -7,8 +6,7 @@ use Rattle.promise.specs.declared.Outcome.the-variants as outcome
 use Rattle.promise.specs.declared.Repaired.{Repaired}
 use Rattle.promise.specs.declared.Repaired.the-variants as repair
 
--- "the answer is Clean", "the answer names the column", "the same for a row", "answer Done where they don't refuse", and the number of a
--- refusal
+-- SPEC 5 and 5.3: done, of write, read and fill; clean, a column or a row, of repair; and of all four the number of a refusal
 pub data Said : Type 0 where
   done : Said
   clean : Said
@@ -16,7 +14,7 @@ pub data Said : Type 0 where
   row : ℕ → Said
   refused : ℕ → Said
 
--- what write, read and fill answer, and what repair does
+-- SPEC 5 and 5.3: what each answer of write, read and fill stands for, and each of repair
 abbrev pub outcomeSaid : Outcome → Said
 outcomeSaid outcome.Done = done
 outcomeSaid (outcome.Refused r) = refused (numberOf r)

@@ -1,5 +1,5 @@
--- WHAT A READER MUST BELIEVE: what each tile call promises, in the words of document 01. Each promise is one relation between what came
--- in, what was answered, and what the lent bytes are afterwards. Assumes nothing.
+-- WHAT A READER MUST BELIEVE: what each tile call promises (SPEC 5 and 9.2). Each promise is one relation between what came in, what was
+-- answered, and what the lent bytes are afterwards. Assumes nothing.
 use mathlib.Core.Path.{_≡_}
 use mathlib.Core.List.{List}
 use Prim.Native.Nat.{ℕ, _+_, _≤_, _<_}
@@ -11,44 +11,42 @@ use Rattle.code.specs.declared.Line.the-variants.{Row, Column}
 use Rattle.size.specs.Answer as size
 use Rattle.promise.specs.Answer.{Said, done, clean, column, row, refused}
 
--- "Order: 1, 2, 3, then the call's own": 1 and 2 as the size and the slope are judged, then 3 exactly when "a lent text or tile has the
--- wrong length"
+-- SPEC 5 and 9.2: how every tile call begins: refused 1 or 2 as p and l are judged, then 3 where a length is wrong; otherwise it goes on
 pub data Admitted (p l : ℕ) (Lengths : Type 0) : size.Said → Type 0 where
   judged : {n : ℕ} → size.Judged p l (size.refused n) → Admitted p l Lengths (size.refused n)
   no-length : size.Judged p l size.well → (Lengths → ⊥) → Admitted p l Lengths (size.refused 3)
   admitted : size.Judged p l size.well → Lengths → Admitted p l Lengths size.well
 
--- the lengths that repair and fill ask for, and those that write and read do
+-- SPEC 5, with 3.1 and 3.2: the length that repair and fill ask for, and those that write and read do
 abbrev pub TileLength : ℕ → List ℕ → Type 0
 TileLength p tile = length tile ≡ tileLength p
 
 abbrev pub BothLengths : ℕ → List ℕ → List ℕ → Type 0
 BothLengths p tile text = TileLength p tile × (length text ≡ textLength p)
 
--- WRITE. "from text, the one good tile with that text"
+-- SPEC 5.1: WRITE. Whatever the tile held, it becomes the good one that has the text
 pub data WriteTold (p l : ℕ) (text tile : List ℕ) : Said → List ℕ → Type 0 where
   refuses : {n : ℕ} → Admitted p l (BothLengths p tile text) (size.refused n) → WriteTold p l text tile (refused n) tile
   writes : {new : List ℕ} → Admitted p l (BothLengths p tile text) size.well → Writes p l text new → WriteTold p l text tile done new
 
--- READ. "the text of a good tile; a tile that isn't good is refused with 5"
+-- SPEC 5.2: READ. If the tile is good the text becomes the tile's, and otherwise it is refused with 5
 pub data ReadTold (p l : ℕ) (tile text : List ℕ) : Said → List ℕ → Type 0 where
   refuses : {n : ℕ} → Admitted p l (BothLengths p tile text) (size.refused n) → ReadTold p l tile text (refused n) text
   not-good : Admitted p l (BothLengths p tile text) size.well → (Good p l tile → ⊥) → ReadTold p l tile text (refused 5) text
   reads : Admitted p l (BothLengths p tile text) size.well → Good p l tile → ReadTold p l tile text done (textOf p tile)
 
--- "some good tile differs from it in cells of one column only", and "the same for a row": y is a good tile that differs from x within the
--- line a
+-- SPEC 5.3: the line a explains x by y, a good tile that agrees with x outside a
 pub record Explains (p l : ℕ) (a : Line) (x y : List ℕ) : Type 0 where
   pub size : length y ≡ tileLength p
   pub good : Good p l y
   pub same : EqualOutside p a x y
 
--- no good tile does
+-- SPEC 5.3: the line a does not explain x, by any tile
 abbrev pub Unexplained : ℕ → ℕ → List ℕ → Line → Type 0
 Unexplained p l x a = (y : List ℕ) → Explains p l a x y → ⊥
 
--- REPAIR. "if the tile is good, the answer is Clean. Otherwise, if some good tile differs from it in cells of one column only, the tile
--- becomes that one and the answer names the column. Otherwise the same for a row. Otherwise 5. Columns are tried from 0 upward"
+-- SPEC 5.3: REPAIR. A good tile is clean. Any other becomes the good one of the first column that explains it, or, if no column does, of
+-- the first row; if no row does either, it is refused with 5
 pub data RepairTold (p l : ℕ) (tile : List ℕ) : Said → List ℕ → Type 0 where
   refuses : {n : ℕ} → Admitted p l (TileLength p tile) (size.refused n) → RepairTold p l tile (refused n) tile
   is-good : Admitted p l (TileLength p tile) size.well → Good p l tile → RepairTold p l tile clean tile
@@ -58,11 +56,11 @@ pub data RepairTold (p l : ℕ) (tile : List ℕ) : Said → List ℕ → Type 0
       → Explains p l (Row r) tile new → ((k : ℕ) → k < r → Unexplained p l tile (Row k)) → RepairTold p l tile (row r) new
   by-none : Admitted p l (TileLength p tile) size.well → ((a : Line) → Unexplained p l tile a) → RepairTold p l tile (refused 5) tile
 
--- "a flagged line is above p-2": otherwise the tile has it
+-- SPEC 3.4: the tile has the line, whose number is 0 to p-2
 abbrev pub Has : ℕ → Line → Type 0
 Has p a = number a + 2 ≤ p
 
--- FILL. "The tile becomes the good tile that agrees with it elsewhere; if there is none, 5." "Fill: 4, then 5."
+-- SPEC 5.4: FILL. Refused 4 where the tile does not have a named line, then 5 where it has no filling; otherwise it becomes the filling
 pub data FillTold (p l : ℕ) (tile : List ℕ) (a b : Line) : Said → List ℕ → Type 0 where
   refuses : {n : ℕ} → Admitted p l (TileLength p tile) (size.refused n) → FillTold p l tile a b (refused n) tile
   no-line : Admitted p l (TileLength p tile) size.well → (Has p a × Has p b → ⊥) → FillTold p l tile a b (refused 4) tile

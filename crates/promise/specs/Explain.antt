@@ -1,4 +1,4 @@
--- What it tells that a line explains a tile: a good tile differs from it within that line. Assumes nothing.
+-- What it tells that a line explains a tile: a good tile agrees with that tile outside the line. Assumes nothing.
 use mathlib.Core.Path.{_≡_, refl, sym}
 use mathlib.Core.Logic.{_↔_, inl}
 use mathlib.Core.List.{List}

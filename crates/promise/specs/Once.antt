@@ -89,7 +89,7 @@ module _ {p l : ℕ} {Lengths : Type 0} {lent : List ℕ} {Own : Said → List �
 
 -- ---- each call
 
--- write: the one good tile with the text
+-- write: the good tile that has the text
 module _ (p l : ℕ) (text tile : List ℕ) where
   -- a write, as such a call
   write-call : {a : Said} {x : List ℕ} → WriteTold p l text tile a x → Call p l (BothLengths p tile text) tile (Only done (Writes p l text)) a x
@@ -101,7 +101,7 @@ module _ (p l : ℕ) (text tile : List ℕ) where
   write-told-once a b x y t u =
       call-once (write-call t) (write-call u) (λ S w. only-single done (Writes p l text) (λ v z. written-once p l text v z S))
 
--- read: the text of a good tile, and else 5
+-- read: where the tile is good its text, and else 5
 module _ (p l : ℕ) (tile text : List ℕ) where
   -- its own outcomes
   abbrev ReadOwn : Said → List ℕ → Type 0

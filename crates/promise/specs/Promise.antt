@@ -65,7 +65,7 @@ repair-one-line p l a x tile said new s w ex e g same told = (repaired told, λ 
     not-refused (RepairTold.refuses h) = admitted-no h (s, w, e)
     not-refused (RepairTold.by-none h f) = f a x (itself p l a x tile ex g same)
 
--- a lone damaged cell is reported as its column, though its row explains it too
+-- a tile of which one cell is hurt is answered by the column of that cell, though its row explains it too
 pub repair-one-cell : (p l i c : ℕ) (x tile : List ℕ) (said : Said) (new : List ℕ) → Size p → Allowed p l
     → length x ≡ tileLength p → length tile ≡ tileLength p → Good p l x → i < p - 1 → c < p - 1 → cell p tile i c ≢ cell p x i c
     → ((r k : ℕ) → r < p - 1 → k < p - 1 → ((r ≡ i) × (k ≡ c) → ⊥) → cell p x r k ≡ cell p tile r k)
@@ -123,7 +123,7 @@ fill-ignores p l a b x y said said′ new new′ e same t u = known (also t)
         (y, FillTold.none (rw e at h) ha hb (λ z g. f z (fills-alike p l a b y x z (λ i j hi hj d q. sym (same i j hi hj d q)) g)), never)
     also (FillTold.fills {new} h ha hb f) = (new, FillTold.fills (rw e at h) ha hb (fills-alike p l a b x y new same f), λ d. refl)
 
--- two rows, or two columns, always have a filling
+-- for two different rows, and for two different columns, there is a filling whatever the tile holds
 pub fill-parallel : (p l : ℕ) (tile : List ℕ) (a b : Line) (said : Said) (new : List ℕ) → Size p → Allowed p l
     → length tile ≡ tileLength p → Has p a → Has p b → Parallel a b → number a ≢ number b → FillTold p l tile a b said new → said ≡ done
 fill-parallel p l tile a b said new s w e ha hb side apart t =

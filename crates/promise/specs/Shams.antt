@@ -25,11 +25,11 @@ module _ {Answer : Type 0} (R : Answer → List ℕ → Type 0) {s : Answer} {x 
 
 -- ---- repair
 
--- a repair that always says 5
+-- a repair that says 5 to every tile
 pub repair-says-5 : RepairTold 5 2 tile-4 (refused 5) tile-4 → ⊥
 repair-says-5 = wrong-answer (RepairTold 5 2 tile-4) (claimed 4) (refused 5) tile-4 (λ e. cc)
 
--- a repair that always says Clean
+-- a repair that calls every tile clean
 pub repair-says-clean : RepairTold 5 2 tile-4 clean tile-4 → ⊥
 repair-says-clean = wrong-answer (RepairTold 5 2 tile-4) (claimed 4) clean tile-4 (λ e. cc)
 
@@ -37,25 +37,25 @@ repair-says-clean = wrong-answer (RepairTold 5 2 tile-4) (claimed 4) clean tile-
 pub rows-first : RepairTold 5 2 tile-4 (row 2) zeros → ⊥
 rows-first = wrong-answer (RepairTold 5 2 tile-4) (claimed 4) (row 2) zeros (λ e. cc)
 
--- a repair that calls an undamaged tile "column 0"
+-- a repair that names column 0 where nothing is hurt
 pub undamaged-column-0 : RepairTold 5 2 zeros (column 0) zeros → ⊥
 undamaged-column-0 = wrong-answer (RepairTold 5 2 zeros) (other-claimed 3) (column 0) zeros (λ e. cc)
 
--- a repair that demands even sums, and so finds tile 2 hurt
+-- a repair that wants all sums to be 0, and so finds tile 2 hurt
 pub repair-even-sums : (said : Said) (new : List ℕ) → (said ≡ clean → ⊥) → RepairTold 5 2 tile-2 said new → ⊥
 repair-even-sums said new d r = d (other-claimed 4 .1 said new r .0)
 
--- a repair that takes the shifted sums of tile 2's column 0 for its damage, and leaves the common byte 1 in them
+-- a repair that changes tile 2's column 0 by its shifted sums, and leaves the common byte 1 in them
 pub common-byte-left : RepairTold 5 2 hurt-2 (column 0) (1 ∷ 1 ∷ 1 ∷ 1 ∷ 0 ∷ 0 ∷ 0 ∷ 1 ∷ 1 ∷ 1 ∷ 1 ∷ 0 ∷ 0 ∷ 1 ∷ 1 ∷ 1 ∷ []) → ⊥
 common-byte-left = wrong-bytes (RepairTold 5 2 hurt-2) (other-claimed 5) (column 0) _ (λ e. cc)
 
 -- ---- fill
 
--- a fill that always says 5
+-- a fill that says 5 to every tile
 pub fill-says-5 : FillTold 5 2 tile-9 (Row 0) (Column 0) (refused 5) tile-9 → ⊥
 fill-says-5 = wrong-answer (FillTold 5 2 tile-9 (Row 0) (Column 0)) (claimed 9) (refused 5) tile-9 (λ e. cc)
 
--- a fill that does not test whether a row with a column has a filling
+-- a fill that takes every row with a column to have a filling
 pub fills-untested : (new : List ℕ) → FillTold 5 2 tile-10 (Row 0) (Column 0) done new → ⊥
 fills-untested new = wrong-answer (FillTold 5 2 tile-10 (Row 0) (Column 0)) (claimed 10) done new (λ e. cc)
 
@@ -68,7 +68,7 @@ written-1 = claimed 1 .0 zeros refl
 written-2 : Exactly (WriteTold 5 2 text-2 zeros) done tile-2
 written-2 = claimed 2 .0 zeros refl
 
--- a writer that copies the text and leaves the checks
+-- a writer that lays the text in and makes no checks
 pub copies-text : WriteTold 5 2 text-1 zeros done copied-1 → ⊥
 copies-text = wrong-bytes (WriteTold 5 2 text-1 zeros) written-1 done copied-1 (λ e. cc)
 
@@ -76,7 +76,7 @@ copies-text = wrong-bytes (WriteTold 5 2 text-1 zeros) written-1 done copied-1 (
 pub other-text : WriteTold 5 2 text-1 zeros done tile-2 → ⊥
 other-text = wrong-bytes (WriteTold 5 2 text-1 zeros) written-1 done tile-2 (λ e. cc)
 
--- a reader that always gives the same text
+-- a reader that gives one text for every tile
 pub same-text : (page text : List ℕ) (said : Said) → length page ≡ textLength 5
     → ReadTold 5 2 tile-1 page said text → ReadTold 5 2 tile-2 page said text → ⊥
 same-text page text said e r q =
@@ -84,7 +84,7 @@ same-text page text said e r q =
     let b = read-after-write 5 2 text-2 zeros tile-2 page said text (written-2 .0) e q .1 in
     let z : _≡_ {A = ℕ} 0 1 = cc in omega arith
 
--- a reader that demands even sums, and so refuses tile 2
+-- a reader that wants all sums to be 0, and so refuses tile 2
 pub read-even-sums : (page new : List ℕ) → length page ≡ textLength 5 → ReadTold 5 2 tile-2 page (refused 5) new → ⊥
 read-even-sums page new e r =
     let a = read-after-write 5 2 text-2 zeros tile-2 page (refused 5) new (written-2 .0) e r .0 in

@@ -1,5 +1,5 @@
--- The starred worked tiles 1 to 10 of document 01, as one list with a single claim (tile 11, whose sheet stands above this crate, joins it
--- in `sheet/specs/Worked.antt`). The tiles are at p 5, l 2, written row by row; each claim is decided by a test that is computed, and the
+-- SPEC 10: the worked tiles 1 to 10 in one list, all claimed at once (tile 11, whose sheet stands above this crate, joins them in
+-- `sheet/specs/Worked.antt`). The tiles are at p 5, l 2, written row by row; each claim is decided by a test that is computed, and the
 -- laws that the test is right. Assumes nothing.
 use mathlib.Core.Path.{_≡_, refl, sym, ap, _∙_}
 use mathlib.Core.List.{List, [], _∷_}
@@ -28,58 +28,58 @@ use Rattle.promise.specs.Decide.{Test, never, so, both, equal, at-most, 
 abbrev pub zeros : List ℕ
 zeros = 0 ∷ 0 ∷ 0 ∷ 0 ∷ 0 ∷ 0 ∷ 0 ∷ 0 ∷ 0 ∷ 0 ∷ 0 ∷ 0 ∷ 0 ∷ 0 ∷ 0 ∷ 0 ∷ []
 
--- 1. Text 1 0 / 0 0 / 0 0 / 0 0 writes 1 0 0 1 / 0 0 1 1 / 0 0 1 0 / 0 0 1 0; sums 0
+-- SPEC 10, tile 1: text 1 0 / 0 0 / 0 0 / 0 0 is written as 1 0 0 1 / 0 0 1 1 / 0 0 1 0 / 0 0 1 0, all sums 0
 abbrev pub text-1 : List ℕ
 text-1 = 1 ∷ 0 ∷ 0 ∷ 0 ∷ 0 ∷ 0 ∷ 0 ∷ 0 ∷ []
 
 abbrev pub tile-1 : List ℕ
 tile-1 = 1 ∷ 0 ∷ 0 ∷ 1 ∷ 0 ∷ 0 ∷ 1 ∷ 1 ∷ 0 ∷ 0 ∷ 1 ∷ 0 ∷ 0 ∷ 0 ∷ 1 ∷ 0 ∷ []
 
--- 2. Text 0 1 / 1 0 / 0 1 / 1 1 writes 0 1 1 1 / 1 0 0 1 / 0 1 1 0 / 1 1 1 1; sums 1 (the paper's example 2.1)
+-- SPEC 10, tile 2: text 0 1 / 1 0 / 0 1 / 1 1 is written as 0 1 1 1 / 1 0 0 1 / 0 1 1 0 / 1 1 1 1, all sums 1 (the paper's example 2.1)
 abbrev pub text-2 : List ℕ
 text-2 = 0 ∷ 1 ∷ 1 ∷ 0 ∷ 0 ∷ 1 ∷ 1 ∷ 1 ∷ []
 
 abbrev pub tile-2 : List ℕ
 tile-2 = 0 ∷ 1 ∷ 1 ∷ 1 ∷ 1 ∷ 0 ∷ 0 ∷ 1 ∷ 0 ∷ 1 ∷ 1 ∷ 0 ∷ 1 ∷ 1 ∷ 1 ∷ 1 ∷ []
 
--- 3. Text 1 2 / 2 0 / 0 2 / 2 2 writes 1 2 2 3 / 2 0 1 3 / 0 2 3 0 / 2 2 3 2; sums 2
+-- SPEC 10, tile 3: text 1 2 / 2 0 / 0 2 / 2 2 is written as 1 2 2 3 / 2 0 1 3 / 0 2 3 0 / 2 2 3 2, all sums 2
 abbrev pub text-3 : List ℕ
 text-3 = 1 ∷ 2 ∷ 2 ∷ 0 ∷ 0 ∷ 2 ∷ 2 ∷ 2 ∷ []
 
 abbrev pub tile-3 : List ℕ
 tile-3 = 1 ∷ 2 ∷ 2 ∷ 3 ∷ 2 ∷ 0 ∷ 1 ∷ 3 ∷ 0 ∷ 2 ∷ 3 ∷ 0 ∷ 2 ∷ 2 ∷ 3 ∷ 2 ∷ []
 
--- 4. Zeros but 1 at (2,3): repair gives zeros, column 3
+-- SPEC 10, tile 4: a 1 in cell (2, 3) alone; repair answers column 3 and leaves zeros
 abbrev pub tile-4 : List ℕ
 tile-4 = 0 ∷ 0 ∷ 0 ∷ 0 ∷ 0 ∷ 0 ∷ 0 ∷ 0 ∷ 0 ∷ 0 ∷ 0 ∷ 1 ∷ 0 ∷ 0 ∷ 0 ∷ 0 ∷ []
 
--- 5. Zeros but 1 at (0,0) and (1,0): zeros, column 0
+-- SPEC 10, tile 5: a 1 in cells (0, 0) and (1, 0); column 0, and zeros are left
 abbrev pub tile-5 : List ℕ
 tile-5 = 1 ∷ 0 ∷ 0 ∷ 0 ∷ 1 ∷ 0 ∷ 0 ∷ 0 ∷ 0 ∷ 0 ∷ 0 ∷ 0 ∷ 0 ∷ 0 ∷ 0 ∷ 0 ∷ []
 
--- 6. Zeros but 1 at (0,0) and (0,1): zeros, row 0
+-- SPEC 10, tile 6: a 1 in cells (0, 0) and (0, 1); row 0, and zeros are left
 abbrev pub tile-6 : List ℕ
 tile-6 = 1 ∷ 1 ∷ 0 ∷ 0 ∷ 0 ∷ 0 ∷ 0 ∷ 0 ∷ 0 ∷ 0 ∷ 0 ∷ 0 ∷ 0 ∷ 0 ∷ 0 ∷ 0 ∷ []
 
--- 7. Zeros but 1 at (0,0) and (1,2): refused 5
+-- SPEC 10, tile 7: a 1 in cells (0, 0) and (1, 2), which no line explains; refused 5
 abbrev pub tile-7 : List ℕ
 tile-7 = 1 ∷ 0 ∷ 0 ∷ 0 ∷ 0 ∷ 0 ∷ 1 ∷ 0 ∷ 0 ∷ 0 ∷ 0 ∷ 0 ∷ 0 ∷ 0 ∷ 0 ∷ 0 ∷ []
 
--- 8. Zeros but 1 at (0,0) and (1,1): column 3, with 1 then also at (0,3), (1,3), (3,3)
+-- SPEC 10, tile 8: a 1 in cells (0, 0) and (1, 1); column 3, into which a 1 is put in rows 0, 1 and 3
 abbrev pub tile-8 : List ℕ
 tile-8 = 1 ∷ 0 ∷ 0 ∷ 0 ∷ 0 ∷ 1 ∷ 0 ∷ 0 ∷ 0 ∷ 0 ∷ 0 ∷ 0 ∷ 0 ∷ 0 ∷ 0 ∷ 0 ∷ []
 
 abbrev pub repaired-8 : List ℕ
 repaired-8 = 1 ∷ 0 ∷ 0 ∷ 1 ∷ 0 ∷ 1 ∷ 0 ∷ 1 ∷ 0 ∷ 0 ∷ 0 ∷ 0 ∷ 0 ∷ 0 ∷ 0 ∷ 1 ∷ []
 
--- 9. Row 0 and column 0 flagged, elsewhere 1 at (1,1) only: 0 1 0 1 / 1 1 0 0 / 1 0 0 0 / 1 0 0 0
+-- SPEC 10, tile 9: row 0 and column 0 are lost, and of the other cells (1, 1) has a 1; filled, it is 0 1 0 1 / 1 1 0 0 / 1 0 0 0 / 1 0 0 0
 abbrev pub tile-9 : List ℕ
 tile-9 = 0 ∷ 0 ∷ 0 ∷ 0 ∷ 0 ∷ 1 ∷ 0 ∷ 0 ∷ 0 ∷ 0 ∷ 0 ∷ 0 ∷ 0 ∷ 0 ∷ 0 ∷ 0 ∷ []
 
 abbrev pub filled-9 : List ℕ
 filled-9 = 0 ∷ 1 ∷ 0 ∷ 1 ∷ 1 ∷ 1 ∷ 0 ∷ 0 ∷ 1 ∷ 0 ∷ 0 ∷ 0 ∷ 1 ∷ 0 ∷ 0 ∷ 0 ∷ []
 
--- 10. The same flags, elsewhere 1 at (2,3) only: refused 5
+-- SPEC 10, tile 10: the same lines are lost, and of the other cells (2, 3) has a 1; there is no filling; refused 5
 abbrev pub tile-10 : List ℕ
 tile-10 = 0 ∷ 0 ∷ 0 ∷ 0 ∷ 0 ∷ 0 ∷ 0 ∷ 0 ∷ 0 ∷ 0 ∷ 0 ∷ 1 ∷ 0 ∷ 0 ∷ 0 ∷ 0 ∷ []
 
@@ -218,7 +218,7 @@ worked = computed .0
 pub others-worked : Each Claim others
 others-worked = computed .1
 
--- the claim of a case by its number, as document 01 numbers the tiles
+-- the claim of a case by its number in SPEC 10
 pub claimed : (k : ℕ) → Claim (getD cases (k - 1) (writes text-1 tile-1 0))
 claimed k = numbered Claim (writes text-1 tile-1 0) (worked .0) cases worked (k - 1)
 

@@ -1,6 +1,6 @@
--- WHAT A READER MUST BELIEVE: what the calls on a reel promise, in the words of document 01. All are answers about a place, and change
--- nothing. Of the prover's model of a slice, `RefT`, they use `now`, the list of its bytes, and `ptr`, where its first byte stands: a block
--- of memory, and an offset in it. Assumes nothing.
+-- WHAT A READER MUST BELIEVE: what the calls on a reel promise (SPEC 7.2 and 7.3). All are answers about a place, which is an offset on
+-- the reel, and change nothing. Of the prover's model of a slice, `RefT`, they use `now`, the list of its bytes, and `ptr`, where its first
+-- byte stands: a block of memory, and an offset in it. Assumes nothing.
 use mathlib.Core.Path.{_≡_}
 use mathlib.Core.List.{List, []}
 use Prim.Native.Nat.{ℕ, _+_, _-_, _≤_, _<_}
@@ -11,8 +11,7 @@ use Rattle.size.specs.Answer as size
 use Rattle.reel.specs.Answer.{Said, tile, end, refused}
 use Rattle.reel.specs.Reel.{Marked, sizeOf, slopeOf, numberOf, bytesAt, HeaderWhole, RecordWhole}
 
--- NEXT. "A place at or past the end of the bytes gives the end." "Reel record: 7 for the header, 6, 1, 2, 7 for the body." "A refusal stays
--- at the record's first byte."
+-- SPEC 7.2: NEXT. What stands at a place: the first row of the table there that is true. A refusal comes with the place that was asked for
 pub data NextTold (reel : List ℕ) (at : ℕ) : Said → Type 0 where
   ends : length reel ≤ at → NextTold reel at end
   header-cut : at < length reel → (HeaderWhole reel at → ⊥) → NextTold reel at (refused 7 at)
@@ -24,7 +23,7 @@ pub data NextTold (reel : List ℕ) (at : ℕ) : Said → Type 0 where
   stands : RecordWhole reel at → Marked reel at → size.Judged (sizeOf reel at) (slopeOf reel at) size.well
       → NextTold reel at (tile (numberOf reel at) (sizeOf reel at) (slopeOf reel at) (bytesAt at))
 
--- AFTER. "Records follow each other with no gap": the next mark stands right behind the tile's bytes; where there is no tile, at the place itself
+-- SPEC 7.3: AFTER. The next record begins where the tile's bytes end; where no tile stands, it is the place that was asked for
 abbrev pub afterSaid : ℕ → Said → ℕ
 afterSaid at (tile number p l from) = from + tileLength p
 afterSaid at end = at
@@ -35,13 +34,13 @@ pub record AfterTold (reel : List ℕ) (at to : ℕ) : Type 0 where
   pub told : NextTold reel at said
   pub is : to ≡ afterSaid at said
 
--- "as the caller's own bytes, not as a copy": the part holds so many bytes of the whole, from a place on; and unless there are none, it
--- stands where they stand
+-- SPEC 7.3: a part of the whole, which is not copied: it holds so many of its bytes, from a place on; and unless there are none, it stands
+-- where they stand
 pub record PartOf (whole part : RefT (List ℕ)) (from count : ℕ) : Type 0 where
   pub holds : now part ≡ take count (drop from (now whole))
   pub own : (now part ≡ [] → ⊥) → ptr part ≡ (ptr whole .0, from + ptr whole .1)
 
--- BYTES. "a tile's bytes are handed back as the caller's own bytes, not as a copy"; "where there is no tile, the bytes are an empty part"
+-- SPEC 7.3: BYTES. The tile's, given as a part of the reel; where no tile stands there are none
 abbrev pub HandsBack : RefT (List ℕ) → Said → RefT (List ℕ) → Type 0
 HandsBack reel (tile number p l from) bytes = PartOf reel bytes from (tileLength p)
 HandsBack reel end bytes = now bytes ≡ []
@@ -52,8 +51,7 @@ pub record BytesTold (reel : RefT (List ℕ)) (at : ℕ) (bytes : RefT (List ℕ
   pub told : NextTold (now reel) at said
   pub are : HandsBack reel said bytes
 
--- REST. "the reel from the next mark on is handed on as it stands"; where there is no tile "the rest begins at the place itself, or is empty
--- at the end"
+-- SPEC 7.3: REST. What is left from the next record on, given as a part of the reel
 pub record RestTold (reel : RefT (List ℕ)) (at : ℕ) (rest : RefT (List ℕ)) : Type 0 where
   pub from : ℕ
   pub told : AfterTold (now reel) at from

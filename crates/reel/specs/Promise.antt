@@ -37,11 +37,11 @@ tile-stands reel bytes at number p l from told handed = record {
     part =
         subst (λ (s : Said). HandsBack reel s bytes) (next-told-once (now reel) at (handed .said) (tile number p l from) (handed .told) told) (handed .are)
 
--- "A place at or past the end of the bytes gives the end", however far past it is
+-- where the reel has no byte there is the end, however far behind the last byte it is asked for
 pub past-end : (reel : List ℕ) (at : ℕ) (said : Said) → length reel ≤ at → NextTold reel at said → said ≡ end
 past-end reel at said h told = next-told-once reel at said end told (ends h)
 
--- where there is no tile, nothing moves: the next place is the place itself, the rest begins there, and a reader stays as it is
+-- where no tile stands, nothing moves: the next place is the place itself, the rest begins there, and a reader stays as it is
 pub stays : (reel : List ℕ) (at to : ℕ) (said : Said) → NextTold reel at said → NoTile said → AfterTold reel at to → to ≡ at
 stays reel at to said told n after = after-once reel at to at after (record { said = said; told = told; is = after-stays at said n })
 

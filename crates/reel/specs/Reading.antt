@@ -1,5 +1,5 @@
--- WHAT A READER MUST BELIEVE: what the functions of the struct `Reader` promise, in the words of document 01: "A reel in reading carries its
--- bytes with its place". What stands at its place and that tile's bytes are promised as `next` and `bytes` promise them. Assumes nothing.
+-- WHAT A READER MUST BELIEVE: what the functions of the struct `Reader` promise, a reel's bytes together with a place (SPEC 7.4). What
+-- stands at its place and that tile's bytes are promised as `next` and `bytes` promise them. Assumes nothing.
 use mathlib.Core.Path.{_≡_}
 use mathlib.Core.List.{List}
 use Prim.Native.Nat.{ℕ}
@@ -8,15 +8,15 @@ use Rattle.reel.specs.Answer.{Said}
 use Rattle.reel.specs.Calls.{NextTold, AfterTold}
 use Rattle.reel.specs.declared.reader.Reader.{Reader}
 
--- a new one carries the reel that was lent, at its first byte
+-- SPEC 7.4: a new reader has the reel that was lent, and is at 0
 abbrev pub Begins : RefT (List ℕ) → Reader → Type 0
 Begins reel reader = (reader .reel ≡ reel) × (reader .at ≡ 0)
 
--- one that is moved carries the same reel, at the place of the next mark; "A refusal stays at the record's first byte"
+-- SPEC 7.4: a step keeps the reel, and takes the reader to the next record, that of 7.3; where no tile stands it stays
 abbrev pub MovesTo : Reader → Reader → Type 0
 MovesTo reader on = (on .reel ≡ reader .reel) × AfterTold (now (reader .reel)) (reader .at) (on .at)
 
--- what stands behind a reel's first record
+-- SPEC 7.4: what a new reader finds after one step
 pub record SecondTold (reel : List ℕ) (said : Said) : Type 0 where
   pub at : ℕ
   pub behind : AfterTold reel 0 at

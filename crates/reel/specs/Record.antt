@@ -1,5 +1,5 @@
--- WHAT A READER MUST BELIEVE: the record of a tile, and records laid end to end, in the words of document 01. How a record is laid out is
--- not said again: a record is what reads as one (`Reel`). Assumes nothing.
+-- WHAT A READER MUST BELIEVE: the record of a tile, and records laid end to end (SPEC 7.5). How a record is laid out is not said again: a
+-- record is what reads as one (`Reel`). Assumes nothing.
 use mathlib.Core.Path.{_≡_}
 use mathlib.Core.List.{List, [], _∷_, _++_}
 use Prim.Native.Nat.{ℕ, _+_}
@@ -9,20 +9,21 @@ use Rattle.code.specs.Tile.{tileLength}
 use Rattle.reel.specs.Reel.{Marked, sizeOf, slopeOf, numberOf, bytesAt}
 use Rattle.reel.specs.Answer.{Said, tile}
 
--- a tile that is put on a reel, and with what
+-- SPEC 7.5: a tile that is put on a reel, and with what
 pub record Printed : Type 0 where
   pub number : ℕ
   pub p : ℕ
   pub l : ℕ
   pub tile : List ℕ
 
--- it may be put on one: its size and slope are taken, and it has the right length
+-- SPEC 7.5: it may be put on one: its size and slope are taken, and it has the right length
 pub record Fit (t : Printed) : Type 0 where
   pub size : Size (t .p)
   pub slope : Allowed (t .p) (t .l)
   pub long : length (t .tile) ≡ tileLength (t .p)
 
--- these bytes are its record: they have the mark and say its size, slope and number; behind these stand its bytes, and nothing else
+-- SPEC 7.5 and 7.1: these bytes are its record: they have the mark and say its size, slope and number; behind these stand its bytes, and
+-- nothing else
 pub record RecordOf (t : Printed) (bytes : List ℕ) : Type 0 where
   pub marked : Marked bytes 0
   pub size : sizeOf bytes 0 ≡ t .p
@@ -31,12 +32,12 @@ pub record RecordOf (t : Printed) (bytes : List ℕ) : Type 0 where
   pub long : length bytes ≡ bytesAt 0 + length (t .tile)
   pub tile : drop (bytesAt 0) bytes ≡ t .tile
 
--- "Records follow each other with no gap": a reel of records, each of a tile that may be put on one
+-- SPEC 7.5: a reel of records that are laid one behind the other, each of a tile that may be put on one
 pub data Laid : List Printed → List ℕ → Type 0 where
   none : Laid [] []
   more : {t : Printed} {bytes : List ℕ} {ts : List Printed} {reel : List ℕ} → Fit t → RecordOf t bytes → Laid ts reel → Laid (t ∷ ts) (bytes ++ reel)
 
--- what a walk listed is those tiles, in their order: their numbers, sizes and slopes, and at each offset the tile's bytes
+-- SPEC 7.5: what a walk listed is those tiles as they were laid: their numbers, sizes and slopes, and at each offset the tile's bytes
 pub data ReadBack (reel : List ℕ) : List Said → List Printed → Type 0 where
   none : ReadBack reel [] []
   more : {t : Printed} {from : ℕ} {listed : List Said} {ts : List Printed} → take (tileLength (t .p)) (drop from reel) ≡ t .tile

@@ -68,7 +68,7 @@ tile-within (stands w m j) = w
 pub tile-behind : {reel : List ℕ} {at number p l from : ℕ} → NextTold reel at (tile number p l from) → from ≡ bytesAt at
 tile-behind (stands w m j) = refl
 
--- where there is no tile, the place behind it is the place itself, and no bytes are handed back
+-- where no tile stands, the place behind it is the place itself, and no bytes are handed back
 pub after-stays : (at : ℕ) (said : Said) → NoTile said → at ≡ afterSaid at said
 after-stays at end n = refl
 after-stays at (refused k from) n = refl
@@ -77,7 +77,7 @@ pub hands-none : (reel bytes : RefT (List ℕ)) (said : Said) → NoTile said �
 hands-none reel bytes end n e = e
 hands-none reel bytes (refused k from) n e = e
 
--- a refusal stays at the record's first byte
+-- a refusal has the place that was asked for as its offset
 pub refusal-stays : {reel : List ℕ} {at n from : ℕ} → NextTold reel at (refused n from) → from ≡ at
 refusal-stays (header-cut h f) = refl
 refusal-stays (no-mark h f) = refl

@@ -1,5 +1,5 @@
--- The whole case of document 01 ("tile 7, p 5, l 2, sixteen zeros; tile 8 likewise, but 41 hex at row 2, column 3; then one byte 00"), byte
--- by byte, and what a walk along it lists. Assumes nothing.
+-- SPEC 10, the whole reel: tile 7 of zeros, tile 8 with the byte 41 hex in cell (2, 3), and a lone byte 00; byte by byte, and what a walk
+-- along it lists. Assumes nothing.
 use mathlib.Core.Path.{refl}
 use mathlib.Core.List.{List, [], _∷_}
 use Prim.Native.Nat.{ℕ}

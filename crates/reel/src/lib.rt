@@ -1,5 +1,5 @@
 // The reel: tiles on a film, one record behind the other. What stands at a place of it is a tile, the end, or a refusal. A tile's
-// bytes, and the reel behind them, are handed back as parts of the reel that was lent. Offsets count from the reel's first byte.
+// bytes, and the reel behind them, are handed back as parts of the reel that was lent. All offsets are those of that reel.
 pub mod reader;
 
 use size::Judgement;
@@ -12,7 +12,7 @@ ghost use Rattle.reel.specs.Reel.{HeaderWhole, Marked, sizeOf, slopeOf, 
 ghost use Rattle.reel.specs.Answer.{foundSaid};
 ghost use Rattle.reel.specs.Calls.{NextTold, BytesTold, AfterTold, RestTold};
 
-// A tile on the reel: its number, size and slope, and the offset of its bytes.
+// A tile on the reel: its number, size and slope, and where its bytes begin.
 pub struct Tile {
     pub number: usize,
     pub p: usize,
@@ -20,7 +20,7 @@ pub struct Tile {
     pub at: usize,
 }
 
-// What stands at a place: a tile, the end, or a refusal with the offset of the faulty record's first byte.
+// What stands at a place: a tile, the end, or a refusal with the offset at which the record begins.
 pub enum Found {
     Tile(Tile),
     End,
@@ -64,7 +64,7 @@ fn tile_length(p: usize) -> usize
     (p - 1) * (p - 1)
 }
 
-// What stands at a place. A record is refused with 7 for its header, 6, 1, 2, and 7 for its body, in this order.
+// What stands at a place. The refusals come in this order: 7 if the header is cut, 6, 1, 2, and 7 if the tile is cut (SPEC 7.2).
 pub fn next(reel: &[u8], at: usize) -> Found
     ensures { λ r. ⌜ NextTold (now (reel .entry)) at (foundSaid r) ⌝ }
 {
@@ -121,7 +121,7 @@ pub fn after(reel: &[u8], at: usize) -> usize
     bytes + tile_length(tile.p)
 }
 
-// The reel from the next mark on. A walk hands it to `next`, at place 0.
+// What is left of the reel from the next record on. A walk hands it to `next`, at place 0.
 pub fn rest(reel: &[u8], at: usize) -> &[u8]
     ensures { λ r. ⌜ RestTold (reel .entry) at r ⌝ }
 {

@@ -1,4 +1,4 @@
-// A reel in reading: its bytes, carried with a place. Each function takes the struct apart and asks the call on the slice and the
+// A reel that is being read: its bytes together with a place. Each function takes the struct apart and asks the call on the slice and the
 // place, which does the work; so each is a few steps long.
 use crate::Found;
 ghost use mathlib.Core.Path.{_≡_};

@@ -11,11 +11,11 @@ use Rattle.residue.specs.Remainder.{same, alike, mod-mul-mod, mul-mod-mo
 use Rattle.residue.specs.Prime.{Prime, mul-cancel, euclid, inverse}
 use Rattle.residue.specs.Pigeon.{onto, onto-once}
 
--- one of the first p - 1 powers of l leaves r
+-- SPEC 2.2: one of the powers l⁰ to l^(p-2) leaves r, divided by p
 abbrev pub Reaches : ℕ → ℕ → ℕ → Type 0
 Reaches p l r = (k : ℕ) × (k < p - 1) × ((l ^ k) % p ≡ r)
 
--- the p - 1 powers of l modulo p reach each of 1 to p - 1
+-- SPEC 2.2: between them these powers leave every remainder but 0
 abbrev pub ReachesAll : ℕ → ℕ → Type 0
 ReachesAll p l = (r : ℕ) → 0 < r → r < p → Reaches p l r
 

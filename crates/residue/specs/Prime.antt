@@ -6,7 +6,7 @@ use native.Mathlib.Nat.{div-add-mod', mod-lt, mod-eq-of-lt, eq-zero-or-pos, eq-o
 use native.Mathlib.Omega.{arith}
 use Rattle.residue.specs.Remainder.{same, alike, mod-mul-mod, mul-mod-mod, add-alike, add-cancel, undo, inverse-cancel, below}
 
--- p is prime: 2 or more, and no number from 2 below p divides it
+-- SPEC 2.1: p is prime: 2 or more, and no number from 2 below p divides it
 pub record Prime (p : ℕ) : Type 0 where
   pub two : 2 ≤ p
   pub whole : (d : ℕ) → 2 ≤ d → d < p → p % d ≡ 0 → ⊥

@@ -62,7 +62,7 @@ pub fn corrected(corrected: Corrected) {
     }
 }
 
-// A tile's number, size and slope, and the offset of its bytes; the end; or a refusal's number and offset.
+// A tile's number, size and slope, and where its bytes begin; the end; or a refusal's number and offset.
 pub fn found(found: Found) {
     match found {
         Found::Tile(tile) => {

@@ -8,8 +8,8 @@ ghost use Rattle.code.specs.OneLine as law;
 ghost use Rattle.code.specs.Held.{held};
 ghost use Rattle.search.specs.Column.{FirstColumn, Along, TakenOff, Shifted};
 
-// The first column from `first` to `end` along which the sums agree, or `end` where there is none. A column is given up at its
-// first line that disagrees.
+// The first column from `first` to `end` along which the sums agree, or `end` where there is none. At the first
+// cell where they differ it goes on to the next column.
 pub fn explaining(
     p: usize,
     l: usize,
@@ -67,7 +67,7 @@ pub fn along(p: usize, line: Line, a: &[u8; 257]) -> [u8; 257]
     sums
 }
 
-// Takes off the common byte, which is the sum where the line meets an added zero.
+// Takes off the common byte, the sum at the line's added zero (SPEC 5.5).
 pub fn without_common(p: usize, sums: [u8; 257]) -> [u8; 257]
     requires { ⌜ (0 < p) × (p ≤ 257) ⌝ }
     ensures { λ r. ⌜ TakenOff p (held sums) (held r) ⌝ }

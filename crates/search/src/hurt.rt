@@ -38,7 +38,7 @@ pub fn find(p: usize, l: usize, tile: &[u8]) -> Finding
     explain(p, l, &a, &b)
 }
 
-// The line that explains the sums a and b: columns from 0 upward, then rows.
+// The line that explains the sums a and b: the first column that does, else the first row.
 fn explain(p: usize, l: usize, a: &[u8; 257], b: &[u8; 257]) -> Finding
     requires { ⌜ Slope p l ⌝ }
     requires { ⌜ p ≤ 257 ⌝ }

@@ -1,4 +1,4 @@
--- WHAT A READER MUST BELIEVE: what the correction call promises, in the words of document 01: one relation between what came in, what was
+-- WHAT A READER MUST BELIEVE: what the correction call promises (SPEC 6.3, 6.4 and 9.2): one relation between what came in, what was
 -- answered, and what the tile is afterwards. Assumes nothing.
 use mathlib.Core.Path.{_≡_}
 use mathlib.Core.List.{List}
@@ -9,7 +9,8 @@ use Rattle.promise.specs.Calls.{Admitted, TileLength}
 use Rattle.sheet.specs.Answer.{Said, corrected, refused}
 use Rattle.sheet.specs.Sheet.{records, Marked, differences, Whole, Placed, SoundBelow}
 
--- "Sheet: 7, then record by record 6 before 4, the first faulty record deciding." "1, 2, 3 and 7 concern no record, so their offset is 0"
+-- SPEC 6.3 and 9.2: refused 7 with offset 0 if the sheet is not whole; else the first record with a fault settles the number, 6 or, if it
+-- is marked, 4, with the offset at which it begins
 pub data Judged (p : ℕ) (sheet : List ℕ) : Said → Type 0 where
   cut : (Whole sheet → ⊥) → Judged p sheet (refused 7 0)
   no-mark : {k : ℕ} → Whole sheet → k < records sheet → SoundBelow p sheet k → (Marked sheet k → ⊥) → Judged p sheet (refused 6 (8 * k))
@@ -17,13 +18,13 @@ pub data Judged (p : ℕ) (sheet : List ℕ) : Said → Type 0 where
       → Judged p sheet (refused 4 (8 * k))
   sound : Whole sheet → SoundBelow p sheet (records sheet) → Judged p sheet (corrected (records sheet))
 
--- "The tile becomes its XOR with the good tile written from that text."
+-- SPEC 6.4: each byte of the tile is XORed with that of the good tile which has the sheet's differences as its text
 pub record Corrects (p l : ℕ) (sheet x y : List ℕ) : Type 0 where
   pub change : List ℕ
   pub written : Writes p l (differences p sheet) change
   pub becomes : y ≡ xored x change
 
--- CORRECT. "Order: 1, 2, 3, then the call's own." "The whole sheet is judged before a byte is written."
+-- SPEC 6.3 and 6.4: CORRECT. Refused 1, 2 or 3 with offset 0, then as the sheet is judged; where there is no fault the tile is corrected
 pub data CorrectTold (p l : ℕ) (tile sheet : List ℕ) : Said → List ℕ → Type 0 where
   refuses : {n : ℕ} → Admitted p l (TileLength p tile) (size.refused n) → CorrectTold p l tile sheet (refused n 0) tile
   faulty : {n at : ℕ} → Admitted p l (TileLength p tile) size.well → Judged p sheet (refused n at) → CorrectTold p l tile sheet (refused n at) tile

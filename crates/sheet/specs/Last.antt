@@ -1,4 +1,4 @@
--- What a place holds after several corrections, each of which says rightly what was there: the last "is". Assumes nothing.
+-- What a place holds after several corrections that each say rightly what was there: what the last one put (SPEC 6.5). Assumes nothing.
 use mathlib.Core.Path.{_≡_, sym, ap, ap₂, _∙_}
 use mathlib.Core.List.{List}
 use Prim.Native.Nat.{ℕ, zero, suc, _+_, _≤_, _<_}
@@ -11,16 +11,16 @@ use Rattle.xor.specs.Xor.{_⊕_, assoc, again, zero-r}
 use Rattle.sheet.specs.Sheet.{records, rowOf, columnOf, Names, wasOf, isOf, given}
 use Rattle.sheet.specs.Make.{lonely, lonely-off, given-none, given-more}
 
--- no record names row i and column j, from the m-th to the one before the n-th
+-- SPEC 6.5: no record names row i and column j, from the m-th to the one before the n-th
 abbrev pub NoneFrom : List ℕ → ℕ → ℕ → ℕ → ℕ → Type 0
 NoneFrom sheet i j m n = (k : ℕ) → m ≤ k → k < n → Names sheet i j k → ⊥
 
--- "at a corrected place, the first "was" equals the repaired text's byte and each later "was" equals the "is" before it": b is that byte
+-- SPEC 6.5: `was` is true: the place's first record has b, which the repaired text holds there, and each later one what the one before put
 pub record Follows (sheet : List ℕ) (i j b : ℕ) : Type 0 where
   pub first : (k : ℕ) → k < records sheet → Names sheet i j k → NoneFrom sheet i j 0 k → wasOf sheet k ≡ b
   pub later : (m k : ℕ) → m < k → k < records sheet → Names sheet i j m → Names sheet i j k → NoneFrom sheet i j (m + 1) k → wasOf sheet k ≡ isOf sheet m
 
--- "the last "is"": that of the k-th record
+-- SPEC 6.5: the k-th record is the last that names the place
 pub record Last (sheet : List ℕ) (i j k : ℕ) : Type 0 where
   pub within : k < records sheet
   pub names : Names sheet i j k
@@ -75,7 +75,7 @@ module _ (sheet : List ℕ) (i j b : ℕ) (follows : Follows sheet i j b) where
       go s (yes e) (no f) = leaves n (λ t. f (t .1)) s
       go s (no e) f = leaves n (λ t. e (t .0)) s
 
-  -- and after all records the last "is" stands there
+  -- and after all records what the last one put stands there
   pub last-made : (k : ℕ) → Last sheet i j k → b ⊕ given sheet (records sheet) i j ≡ isOf sheet k
   last-made k last = go (standing (records sheet) (omega arith))
     where

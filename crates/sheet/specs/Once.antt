@@ -1,4 +1,4 @@
--- The contract settles the answer and the bytes: two outcomes that are allowed for the same input are the same. Assumes nothing.
+-- The contract allows one answer and one tile: two outcomes that are allowed for the same input are the same. Assumes nothing.
 use mathlib.Core.Path.{_≡_, refl, sym, ap, _∙_}
 use mathlib.Core.List.{List}
 use Prim.Native.Nat.{ℕ, _*_, _≤_}

@@ -1,5 +1,5 @@
 -- WHAT THE PROMISE MEANS FOR A USER: what a sheet changes and what it leaves, in any tile, sound or not; that repair and fill come to the
--- same after it as before; and that a corrected place is read as its last "is". Assumes nothing.
+-- same after it as before; and that a corrected place is read as its last record put it. Assumes nothing.
 use mathlib.Core.Path.{_≡_, refl, sym, ap, _∙_}
 use mathlib.Core.Logic.{inl}
 use mathlib.Core.List.{List, []}
@@ -30,7 +30,7 @@ use Rattle.sheet.specs.Last.{NoneFrom, Follows, Last, last-made}
 
 -- ---- what is taken, and what is refused
 
--- every tile of the right length, good or damaged or garbage, is corrected by every sound sheet, and the answer is the number of its records
+-- every tile of the right length, good or damaged or garbage, is corrected by every sound sheet, whose records are counted in the answer
 pub correct-takes : (p l : ℕ) (tile sheet : List ℕ) (said : Said) (new : List ℕ) → Size p → Allowed p l → length tile ≡ tileLength p
     → Whole sheet → SoundBelow p sheet (records sheet) → CorrectTold p l tile sheet said new → said ≡ corrected (records sheet)
 correct-takes p l tile sheet said new s w e whole below told = go told
@@ -40,7 +40,7 @@ correct-takes p l tile sheet said new s w e whole below told = go told
     go (CorrectTold.faulty {n} {at} h j) = judged-told-once p sheet (refused n at) (corrected (records sheet)) j (sound whole below)
     go (CorrectTold.corrects {n} h j c) = judged-told-once p sheet (corrected n) (corrected (records sheet)) j (sound whole below)
 
--- the number of records is tied to the sheet's length
+-- the count that is answered is an eighth of the sheet's length
 pub count-tied : {p l n : ℕ} {tile sheet new : List ℕ} → CorrectTold p l tile sheet (corrected n) new → 8 * n ≡ length sheet
 count-tied (CorrectTold.corrects h (sound w below) c) = omega arith
 
@@ -137,14 +137,14 @@ module _ (p l n : ℕ) (tile sheet new : List ℕ) (told : CorrectTold p l tile 
       write-told-once p l (xored (textOf p fixed) (differences p sheet)) lent wrote answer.done afresh′ fixed′ written
       (WriteTold.writes (admits (t .0) (t .1) (e, xored-length (textOf p fixed) (differences p sheet) ∙ text-length p fixed)) w)
 
-  -- FILLING the same lines gives the same answer, and the tiles differ by the change
+  -- FILL answers after the sheet as before, whatever lines are named, and the tiles that it leaves differ by the change
   pub fill-after : (a b : Line) (said said′ : answer.Said) (filled filled′ : List ℕ) → FillTold p l tile a b said filled → FillTold p l new a b said′ filled′
       → (said′ ≡ said) × (filled′ ≡ xored filled change)
   fill-after a b said said′ filled filled′ before after =
       fill-told-once p l new a b said′ said filled′ (xored filled change) after
       (rw (← changed told .becomes) at (fill-carried p l change (changed told .written .good) before))
 
-  -- THE TEXT READ after sheet and repair holds, at a place whose records follow each other, the last "is"
+  -- WHAT IS READ once the sheet is made and the tile repaired: at a place whose records follow each other, what the last one put
   pub last-is : (said said′ read : answer.Said) (fixed fixed′ page text : List ℕ) (i j k : ℕ) → RepairTold p l tile said fixed
       → ((m : ℕ) → said ≡ answer.refused m → ⊥) → RepairTold p l new said′ fixed′ → length page ≡ textLength p → ReadTold p l fixed′ page read text
       → Follows sheet i j (textByte p (textOf p fixed) i j) → Last sheet i j k
@@ -161,7 +161,7 @@ module _ (p l n : ℕ) (tile sheet new : List ℕ) (told : CorrectTold p l tile 
             ∙ ap (λ (x : ℕ). textByte p (textOf p fixed) i j ⊕ x) (differences-at p sheet i j hi hj) ∙ last-made sheet i j (textByte p (textOf p fixed) i j) follows k last,
       )
 
--- an empty sheet answers 0 and changes nothing
+-- the empty sheet is answered by 0 records, and the tile stays as it is
 pub correct-empty : (p l : ℕ) (tile : List ℕ) (said : Said) (new : List ℕ) → Size p → Allowed p l → length tile ≡ tileLength p
     → CorrectTold p l tile [] said new → (said ≡ corrected 0) × (new ≡ tile)
 correct-empty p l tile said new s w e told =

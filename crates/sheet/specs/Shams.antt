@@ -11,11 +11,11 @@ use Rattle.sheet.specs.Answer.{Said, corrected, refused}
 use Rattle.sheet.specs.Calls.{sound, CorrectTold}
 use Rattle.sheet.specs.Worked.{sheet-11, sheet-two, hurt-cell, claimed, other-claimed}
 
--- a sheet that does nothing
+-- a sheet that leaves the tile as it was
 pub does-nothing : (said : Said) → CorrectTold 5 2 tile-4 sheet-11 said tile-4 → ⊥
 does-nothing said = wrong-bytes (CorrectTold 5 2 tile-4 sheet-11) (claimed 11 .1) said tile-4 (λ e. cc)
 
--- one that applies its first record and passes over the rest: of the two records the second is missing
+-- one of which the first record alone is made: of the two records the second is missing
 pub first-record-alone : (said : Said) → CorrectTold 5 2 zeros sheet-two said tile-1 → ⊥
 first-record-alone said = wrong-bytes (CorrectTold 5 2 zeros sheet-two) (other-claimed 2 .1) said tile-1 (λ e. cc)
 
@@ -27,11 +27,11 @@ invented-count p l n tile sheet new d (CorrectTold.corrects h (sound w s) c) = d
 pub leaves-checks : (said : Said) → CorrectTold 5 2 zeros sheet-11 said copied-1 → ⊥
 leaves-checks said = wrong-bytes (CorrectTold 5 2 zeros sheet-11) (other-claimed 1 .1) said copied-1 (λ e. cc)
 
--- one that writes "is" over the cell, which is damaged: the tile then holds 1 at (0,0), whatever it holds elsewhere
+-- one that writes `is` over the cell, which is damaged: the tile then holds 1 at (0,0), whatever it holds elsewhere
 pub writes-is : (said : Said) (new : List ℕ) → getD new 0 0 ≡ 1 → CorrectTold 5 2 hurt-cell sheet-11 said new → ⊥
 writes-is said new e told =
     let q = ap (λ (x : List ℕ). getD x 0 0) (other-claimed 3 .1 .1 said new told .1) in let z : _≡_ {A = ℕ} 3 1 = sym q ∙ e in omega arith
 
--- one that compares "was" with the cell, and refuses where they differ
+-- one that compares `was` with the cell, and refuses where they differ
 pub compares-was : (n at : ℕ) (new : List ℕ) → CorrectTold 5 2 hurt-cell sheet-11 (refused n at) new → ⊥
 compares-was n at new = wrong-answer (CorrectTold 5 2 hurt-cell sheet-11) (other-claimed 3 .1) (refused n at) new (λ e. cc)

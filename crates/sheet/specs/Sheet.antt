@@ -1,4 +1,4 @@
--- WHAT A READER MUST BELIEVE: what a correction sheet says, in the words of document 01. Records count from 0. Assumes nothing.
+-- WHAT A READER MUST BELIEVE: what a correction sheet says (SPEC 6.1 to 6.3). Records count from 0. Assumes nothing.
 use mathlib.Core.Path.{_≡_}
 use mathlib.Core.List.{List}
 use Prim.Native.Nat.{ℕ, _+_, _*_, _/_, _%_, _≤_, _<_}
@@ -11,14 +11,14 @@ use Rattle.record.specs.Number.{bigEndian}
 
 -- ---- the records
 
--- "A sheet is a run of 8-byte records": how many there are, and the n-th byte of the k-th
+-- SPEC 6.1: how many records of eight bytes there are, and the n-th byte of the k-th
 abbrev pub records : List ℕ → ℕ
 records sheet = length sheet / 8
 
 abbrev pub byteOf : List ℕ → ℕ → ℕ → ℕ
 byteOf sheet k n = getD sheet (8 * k + n) 0
 
--- "mark C3 3C, row (2 bytes), column (2 bytes), the byte that was, the byte that is to be"
+-- SPEC 6.1 and FORMATS: the mark, C3 3C; the row and the column, each a number of two bytes; what stood there; what is to stand there
 abbrev pub Marked : List ℕ → ℕ → Type 0
 Marked sheet k = (byteOf sheet k 0 ≡ 0xC3) × (byteOf sheet k 1 ≡ 0x3C)
 
@@ -34,34 +34,34 @@ wasOf sheet k = byteOf sheet k 6
 abbrev pub isOf : List ℕ → ℕ → ℕ
 isOf sheet k = byteOf sheet k 7
 
--- the k-th record names row i and column j
+-- SPEC 6.1: the k-th record names the cell in row i and column j
 abbrev pub Names : List ℕ → ℕ → ℕ → ℕ → Type 0
 Names sheet i j k = (i ≡ rowOf sheet k) × (j ≡ columnOf sheet k)
 
--- "A record's difference is was XOR is."
+-- SPEC 6.2: the difference of the k-th record, its two bytes XORed
 abbrev pub differenceOf : List ℕ → ℕ → ℕ
 differenceOf sheet k = wasOf sheet k ⊕ isOf sheet k
 
 -- ---- the differences
 
--- the XOR of the differences that the first n records give for row i and column j
+-- SPEC 6.2: the XOR of the differences that the first n records give for row i and column j
 unfoldable pub given : List ℕ → ℕ → Cells
 given sheet n i j = xorBelow n (λ k. keep (eqb i (rowOf sheet k)) (keep (eqb j (columnOf sheet k)) (differenceOf sheet k)))
 
--- "The sheet's differences form a text: each place holds the XOR of the differences given for it, zero elsewhere."
+-- SPEC 6.2: the text that all of them make up, with 0 where no record names the place
 unfoldable pub differences : ℕ → List ℕ → List ℕ
 differences p sheet = textFrom p (given sheet (records sheet))
 
 -- ---- a sound sheet
 
--- "a sheet's length is no multiple of 8": otherwise it is whole
+-- SPEC 6.3: the sheet is whole: eight divides its length
 abbrev pub Whole : List ℕ → Type 0
 Whole sheet = length sheet % 8 ≡ 0
 
--- "a correction's row is above p-2 or its column above p-4": otherwise it has its place in the text
+-- SPEC 6.3: the k-th record names a cell that the text has, in rows 0 to p-2 and columns 0 to p-4
 abbrev pub Placed : ℕ → List ℕ → ℕ → Type 0
 Placed p sheet k = (rowOf sheet k + 2 ≤ p) × (columnOf sheet k + 4 ≤ p)
 
--- none of the first n records is faulty
+-- SPEC 6.3: none of the first n records has a fault
 abbrev pub SoundBelow : ℕ → List ℕ → ℕ → Type 0
 SoundBelow p sheet n = (k : ℕ) → k < n → Marked sheet k × Placed p sheet k

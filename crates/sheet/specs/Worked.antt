@@ -1,6 +1,6 @@
--- The starred worked tiles 1 to 11 of document 01, as one list with a single claim: 1 to 10 as the crate `promise` has them, and 11, which has
--- a sheet. The tiles are at p 5, l 2, written row by row; what is claimed of 11 is decided by a test that is computed, and by the laws that
--- the test is right. Assumes nothing.
+-- SPEC 10: the worked tiles 1 to 11 in one list, all claimed at once: 1 to 10 as the crate `promise` has them, and 11, which has a sheet.
+-- The tiles are at p 5, l 2, written row by row; what is claimed of 11 is decided by a test that is computed, and by the laws that the test
+-- is right. Assumes nothing.
 use mathlib.Core.List.{List, [], _∷_}
 use Prim.Native.Nat.{ℕ, _+_, _-_, _%_}
 use lib.ListN.{length, getD}
@@ -23,21 +23,22 @@ use Rattle.sheet.specs.Once.{correct-told-once}
 
 -- ---- the tiles and the sheets
 
--- 11. The tile of 4, sheet of one record, row 0, column 0, was 0, is 1: tile 1 with (2,3) changed by 1; repair still says column 3
+-- SPEC 10, tile 11: the tile of 4, and a sheet that puts 1 for 0 in cell (0, 0); the tile of 1 comes out, hurt in (2, 3) as that of 4 was,
+-- and repair answers column 3 again
 abbrev pub sheet-11 : List ℕ
 sheet-11 = 0xC3 ∷ 0x3C ∷ 0 ∷ 0 ∷ 0 ∷ 0 ∷ 0 ∷ 1 ∷ []
 
 abbrev pub tile-11 : List ℕ
 tile-11 = 1 ∷ 0 ∷ 0 ∷ 1 ∷ 0 ∷ 0 ∷ 1 ∷ 1 ∷ 0 ∷ 0 ∷ 1 ∷ 1 ∷ 0 ∷ 0 ∷ 1 ∷ 0 ∷ []
 
--- and a second record, row 1, column 0, was 0, is 1: text 1 0 / 1 0 / 0 0 / 0 0 writes 1 0 1 1 / 1 0 0 0 / 0 0 1 1 / 0 0 1 0
+-- and a second record, which puts 1 for 0 in cell (1, 0): text 1 0 / 1 0 / 0 0 / 0 0 is written as 1 0 1 1 / 1 0 0 0 / 0 0 1 1 / 0 0 1 0
 abbrev pub sheet-two : List ℕ
 sheet-two = 0xC3 ∷ 0x3C ∷ 0 ∷ 0 ∷ 0 ∷ 0 ∷ 0 ∷ 1 ∷ 0xC3 ∷ 0x3C ∷ 0 ∷ 1 ∷ 0 ∷ 0 ∷ 0 ∷ 1 ∷ []
 
 abbrev pub tile-two : List ℕ
 tile-two = 1 ∷ 0 ∷ 1 ∷ 1 ∷ 1 ∷ 0 ∷ 0 ∷ 0 ∷ 0 ∷ 0 ∷ 1 ∷ 1 ∷ 0 ∷ 0 ∷ 1 ∷ 0 ∷ []
 
--- zeros but 2 at (0,0), the very place that is corrected; and the same with 2 XOR 1 there, once it is
+-- a 2 in cell (0, 0), the very place that is corrected; and the same with 2 XOR 1 there, once it is
 abbrev pub hurt-cell : List ℕ
 hurt-cell = 2 ∷ 0 ∷ 0 ∷ 0 ∷ 0 ∷ 0 ∷ 0 ∷ 0 ∷ 0 ∷ 0 ∷ 0 ∷ 0 ∷ 0 ∷ 0 ∷ 0 ∷ 0 ∷ []
 
@@ -108,7 +109,7 @@ all-worked = computed .0
 pub others-worked : Each Claim others
 others-worked = computed .1
 
--- the claim of a case by its number, as document 01 numbers the tiles
+-- the claim of a case by its number in SPEC 10
 pub claimed : (k : ℕ) → Claim (getD cases (k - 1) (of-tile (worked.writes text-1 tile-1 0)))
 claimed k = numbered Claim (of-tile (worked.writes text-1 tile-1 0)) (all-worked .0) cases all-worked (k - 1)
 

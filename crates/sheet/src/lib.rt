@@ -1,5 +1,5 @@
-// The correction sheet: records that each name a place in a tile's text, the byte that was there and the byte that is to be. The
-// tile need not be sound: what is made is the change that the sheet asks for, the same in every tile.
+// The correction sheet: records that each name a place in a tile's text, what stood there and what is to stand there. The tile
+// need not be sound: what is made is the change that the sheet asks for, the same in every tile.
 use cells::place;
 use chain::checks;
 use code::Line;
@@ -18,7 +18,7 @@ ghost use Rattle.sheet.specs.Calls.{Judged, Corrects, CorrectTold};
 ghost use Rattle.sheet.specs.Answer.{correctedSaid};
 ghost use Rattle.sheet.specs.Make.{ByteAdded};
 
-// What a sheet's call answers: the number of its records, or a refusal with the offset of the faulty record's first byte.
+// What a sheet's call answers: the number of its records, or a refusal with the offset at which the faulty record begins.
 pub enum Corrected {
     Records(usize),
     Refused(Refusal, usize),
@@ -72,7 +72,7 @@ fn has_place(p: usize, row: usize, column: usize) -> bool
     true
 }
 
-// Judges the whole sheet: refusal 7, then record by record 6 before 4.
+// Judges the sheet as a whole: refusal 7 for its length, then 6 or 4 for the first record that has a fault (SPEC 6.3).
 fn judge(p: usize, sheet: &[u8]) -> Corrected
     ensures { λ r. ⌜ Judged p (now (sheet .entry)) (correctedSaid r) ⌝ }
 {
@@ -129,7 +129,7 @@ fn add_byte(p: usize, s: usize, i: usize, j: usize, x: u8, sums: &mut [u8; 257])
     sums[t] = sums[t] ^ x;
 }
 
-// Corrects a tile, sound or damaged, by a sheet. The whole sheet is judged before a byte is written.
+// Corrects a tile, sound or damaged, by a sheet, which is judged as a whole while nothing is changed yet.
 pub fn correct(p: usize, l: usize, tile: &mut [u8], sheet: &[u8]) -> Corrected
     ensures { λ r. ⌜ CorrectTold p l (now (tile .entry)) (now (sheet .entry)) (correctedSaid r) (now (tile .exit)) ⌝ }
 {

@@ -1,4 +1,4 @@
--- WHAT A READER MUST BELIEVE: what the size and slope calls promise, in the words of document 01. Assumes nothing.
+-- WHAT A READER MUST BELIEVE: what the size and slope calls promise (SPEC 2.4 and 9.2). Assumes nothing.
 use Prim.Native.Nat.{ℕ}
 use Rattle.residue.specs.Size.{Size, Allowed}
 use Rattle.house.specs.House.{HouseSlope}
@@ -8,12 +8,13 @@ use Rattle.size.specs.declared.House.the-variants.{Slope, Refused}
 use Rattle.size.specs.declared.Judgement.{Judgement}
 use Rattle.size.specs.declared.Judgement.the-variants as judgement
 
--- an answer in the document's terms: a slope, that all is well, or the number of a refusal
+-- SPEC 2.4: what may be answered: a slope, that all is well, or the number of a refusal
 pub data Said : Type 0 where
   slope : ℕ → Said
   well : Said
   refused : ℕ → Said
 
+-- SPEC 2.4 and 9.1: what each answer of the two calls stands for
 abbrev pub houseSaid : House → Said
 houseSaid (Slope l) = slope l
 houseSaid (Refused r) = refused (numberOf r)
@@ -22,12 +23,12 @@ abbrev pub judgementSaid : Judgement → Said
 judgementSaid judgement.Taken = well
 judgementSaid (judgement.Refused r) = refused (numberOf r)
 
--- "A call gives it for a size, or refuses with 1."
+-- SPEC 2.4: a size is given its house slope, and any other number is refused with 1
 pub data HouseTold (p : ℕ) : Said → Type 0 where
   given : {l : ℕ} → Size p → HouseSlope p l → HouseTold p (slope l)
   no-size : (Size p → ⊥) → HouseTold p (refused 1)
 
--- 1 exactly when "p is no prime from 5 to 257"; then 2 exactly when "l is outside 2 to p-2, or its powers miss a remainder"
+-- SPEC 2.4 and 9.2: refused 1 where p is no size, otherwise refused 2 where l is not allowed there, otherwise all is well
 pub data Judged (p l : ℕ) : Said → Type 0 where
   taken : Size p → Allowed p l → Judged p l well
   no-size : (Size p → ⊥) → Judged p l (refused 1)

@@ -1,8 +1,9 @@
--- WHAT A READER MUST BELIEVE: the number of each refusal, of document 01's table "Numbers for no". Assumes nothing.
+-- WHAT A READER MUST BELIEVE: the number of each refusal (SPEC 9.1). Assumes nothing.
 use Prim.Native.Nat.{ℕ}
 use Rattle.size.specs.declared.Refusal.{Refusal}
 use Rattle.size.specs.declared.Refusal.the-variants.{BadSize, BadSlope, BadLength, BadPlace, Damaged, BadMark, CutShort}
 
+-- SPEC 9.1: each refusal by its name, and its number for no
 abbrev pub numberOf : Refusal → ℕ
 numberOf BadSize = 1
 numberOf BadSlope = 2

@@ -94,16 +94,16 @@ takes-4 s = no-size-4 s
 pub refuses-257 : Says false (Size 257) → ⊥
 refuses-257 f = f size-257
 
--- a slope call that judges by the prime alone, and so says yes to 2 at 7
+-- a slope call that does not look at the powers, and so says yes to 2 at 7
 pub takes-2-at-7 : Says true (Size 7 × Allowed 7 2) → ⊥
 takes-2-at-7 t = no-at-7-2 (t .1)
 
--- a slope call that judges by the prime alone, and so says yes to 2 at 17
+-- a slope call that does not look at the powers, and so says yes to 2 at 17
 pub takes-2-at-17 : Says true (Size 17 × Allowed 17 2) → ⊥
 unfolding slopeOk clear
 takes-2-at-17 t = slope-complete 17 2 (t .0 .prime) (t .1)
 
--- a slope call that judges by the prime alone, and so says no to 2 at 5
+-- a slope call that does not look at the powers, and so says no to 2 at 5
 pub refuses-2-at-5 : Says false (Size 5 × Allowed 5 2) → ⊥
 refuses-2-at-5 f = f (size-5, at-5-2)
 

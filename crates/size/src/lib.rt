@@ -17,7 +17,7 @@ pub enum Refusal {
     CutShort,
 }
 
-// The number of a refusal in the table "Numbers for no".
+// The number of a refusal (SPEC 9.1).
 pub fn number(refusal: Refusal) -> usize
     ensures { λ r. ⌜ r ≡ numberOf refusal ⌝ }
 {
@@ -64,8 +64,8 @@ pub fn takes_size(p: usize) -> bool
     }
 }
 
-// Does the size p allow the slope l? Its powers reach each of 1 to p - 1 where none from the first to the (p - 2)-th is 1. A p
-// that is no size because it is too small or too large allows none.
+// Does the size p allow the slope l (SPEC 2.2)? Its powers leave all remainders but 0 where none from the first to the (p - 2)-th is 1.
+// A p that is no size because it is too small or too large allows none.
 fn allows(p: usize, l: usize) -> bool
     ensures { λ r. ⌜ (Size p → Says r (Allowed p l)) ⌝ }
 {

@@ -1,4 +1,5 @@
--- WHAT A READER MUST BELIEVE: the word and the numbers that stand for each answer, and the line that a number names. Assumes nothing.
+-- WHAT A READER MUST BELIEVE: the word and the numbers that stand for each answer, and the line that a number names (SPEC 11.1 and 11.3).
+-- Assumes nothing.
 use mathlib.Core.Bool.{cond}
 use Prim.Native.Nat.{ℕ, _+_, _-_, _*_}
 use lib.Dec.{ltb}
@@ -7,28 +8,27 @@ use Rattle.code.specs.declared.Line.the-variants.{Row, Column}
 use Rattle.size.specs.Answer as size
 use Rattle.promise.specs.Answer as tile
 
--- "The answer is one word, kind·2³² + first·2¹⁶ + second"
+-- SPEC 11.1: an answer has a kind and two numbers, and is one word of 64 bits, in which each of the two has 16
 pub data Answer : Type 0 where
   answer : (kind first second : ℕ) → Answer
 
 abbrev pub word : Answer → ℕ
 word (answer kind first second) = kind * 0x100000000 + first * 0x10000 + second
 
--- "kind 0 done, clean or a tile; 1 column (first), 2 row (first), .. 4 refused (first is the number), 7 the end of a reel". Kind 3, a cell,
--- is for later
+-- SPEC 11.1: what is well, and has no number to tell, is kind 0; a refusal is kind 4 with its number. Kind 3 is kept for a single cell
 abbrev pub done : Answer
 done = answer 0 0 0
 
 abbrev pub refusal : ℕ → Answer
 refusal n = answer 4 n 0
 
--- "`cf_house_slope` gives the slope as first"
+-- SPEC 11.1: what the size calls say; the house slope is the first number
 abbrev pub sizeAnswer : size.Said → Answer
 sizeAnswer (size.slope l) = answer 0 l 0
 sizeAnswer size.well = done
 sizeAnswer (size.refused n) = refusal n
 
--- what write, read, fill and repair say
+-- SPEC 11.1: what write, read, fill and repair say; a column is kind 1 and a row kind 2, with its number
 abbrev pub tileAnswer : tile.Said → Answer
 tileAnswer tile.done = done
 tileAnswer tile.clean = done
@@ -36,6 +36,6 @@ tileAnswer (tile.column c) = answer 1 c 0
 tileAnswer (tile.row r) = answer 2 r 0
 tileAnswer (tile.refused n) = refusal n
 
--- "A line goes in as its number for a row, and 8000 hex plus its number for a column; larger numbers are columns"
+-- SPEC 11.3: a number below 8000 hex names the row with that number, and any other the column that is 8000 hex less
 unfoldable pub lineOf : ℕ → Line
 lineOf n = cond (ltb n 0x8000) (Row n) (Column (n - 0x8000))

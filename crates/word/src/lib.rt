@@ -1,10 +1,13 @@
 // Answers as words, and numbers as lines: what the C library's calls have in common.
 use code::Line;
 use promise::Outcome;
+use size::Judgement;
 use size::Refusal;
 ghost use mathlib.Core.Path.{_≡_};
+ghost use Rattle.size.specs.Answer.{judgementSaid};
 ghost use Rattle.size.specs.Refusal.{numberOf};
 ghost use Rattle.promise.specs.Answer.{outcomeSaid};
+ghost use Rattle.word.specs.Version as numbered;
 ghost use Rattle.word.specs.Word as spec;
 
 // The kinds of an answer. Done stands for clean and for a tile too.
@@ -46,6 +49,16 @@ pub fn end() -> u64
     word(END, 0)
 }
 
+// What a size and a slope are judged to be.
+pub fn of_judgement(answer: Judgement) -> u64
+    ensures { λ r. ⌜ r ≡ spec.word (spec.sizeAnswer (judgementSaid answer)) ⌝ }
+{
+    match answer {
+        Judgement::Taken => done(),
+        Judgement::Refused(refusal) => refused(refusal),
+    }
+}
+
 // What write, read and fill answer.
 pub fn of_outcome(answer: Outcome) -> u64
     ensures { λ r. ⌜ r ≡ spec.word (spec.tileAnswer (outcomeSaid answer)) ⌝ }
@@ -54,6 +67,13 @@ pub fn of_outcome(answer: Outcome) -> u64
         Outcome::Done => done(),
         Outcome::Refused(refusal) => refused(refusal),
     }
+}
+
+// The version as one number, which include/counterfrost.h has too.
+pub fn version() -> u64
+    ensures { λ r. ⌜ r ≡ numbered.version ⌝ }
+{
+    200
 }
 
 // The line that a number names.

@@ -10,7 +10,7 @@ use walk::sums::line_sums;
 ghost use Rattle.promise.specs.Answer.{outcomeSaid};
 ghost use Rattle.promise.specs.Calls.{WriteTold, ReadTold};
 
-// Writes the one good tile with that text: lays the text into its columns and fills the two check columns.
+// Writes the good tile that has the text: lays the text into its columns and fills the two check columns.
 pub fn write(p: usize, l: usize, text: &[u8], tile: &mut [u8]) -> Outcome
     ensures { λ r. ⌜ WriteTold p l (now (text .entry)) (now (tile .entry)) (outcomeSaid r) (now (tile .exit)) ⌝ }
 {
@@ -26,7 +26,7 @@ pub fn write(p: usize, l: usize, text: &[u8], tile: &mut [u8]) -> Outcome
     }
 }
 
-// Reads the text of a good tile.
+// Reads a good tile's text.
 pub fn read(p: usize, l: usize, tile: &[u8], text: &mut [u8]) -> Outcome
     ensures { λ r. ⌜ ReadTold p l (now (tile .entry)) (now (text .entry)) (outcomeSaid r) (now (text .exit)) ⌝ }
 {

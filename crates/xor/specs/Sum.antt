@@ -10,7 +10,7 @@ use lib.Dec.{eqb}
 use borrow.Author.Tests.{eqb-true, eq-eqb}
 use Rattle.xor.specs.Xor.{_⊕_, xors, assoc, four, zero-l, zero-r, byte}
 
--- f 0 ⊕ .. ⊕ f (n - 1), and 0 for n = 0
+-- SPEC 1.1: f 0 ⊕ .. ⊕ f (n - 1), and 0 for n = 0
 unfoldable pub xorBelow : ℕ → (ℕ → ℕ) → ℕ
 xorBelow zero f = 0
 xorBelow (suc n) f = xorBelow n f ⊕ f n
@@ -27,7 +27,7 @@ more n f = ap (λ (m : ℕ). xorBelow m f) (add-one n)
 pub count : (n m : ℕ) (f : ℕ → ℕ) → n ≡ m → xorBelow n f ≡ xorBelow m f
 count n m f e = ap (λ (k : ℕ). xorBelow k f) e
 
--- x where the test holds, and else 0
+-- SPEC 1.1: x where the test holds and else 0, so that a XOR takes those bytes alone that pass a test
 abbrev pub keep : Bool → ℕ → ℕ
 keep true x = x
 keep false x = 0

@@ -3,7 +3,7 @@
 from expected.reels import fields, garbage, lengths, refusals, spoiled, tiles
 
 GROUPS = {
-    "the whole case, the empty reel, one record cut short": lengths.short_reels,
+    "the whole reel of SPEC 10, the empty reel, one record cut short": lengths.short_reels,
     "three records cut at every length": lengths.every_cut,
     "as many bytes as are taken": lengths.most_bytes,
     "more bytes than are taken": lengths.too_long,

@@ -1,4 +1,4 @@
-"""The fields of a record's header: each size, each slope, tile numbers, and the largest sizes."""
+"""The fields of a record's header (SPEC 7.1): each size, each slope, tile numbers, and the largest sizes."""
 
 from random import Random
 

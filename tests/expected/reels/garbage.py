@@ -2,7 +2,7 @@
 
 from random import Random
 
-from expected.reel import HEADER, MARK, WHOLE_CASE, record
+from expected.reel import HEADER, MARK, WHOLE_REEL, record
 from expected.reels.made import Case, joined
 from expected.sizes import HOUSE
 from expected.tile import tile_length
@@ -38,7 +38,7 @@ def repeated():
 
 def complemented():
     """Sound reels with every byte complemented."""
-    reels = {"the whole case": WHOLE_CASE, "five records": joined([5, 7, 11, 13, 47]), "the largest": joined([251])}
+    reels = {"the whole reel of SPEC 10": WHOLE_REEL, "five records": joined([5, 7, 11, 13, 47]), "the largest": joined([251])}
     for name, reel in reels.items():
         yield Case(f"{name}, complemented", bytes(255 - byte for byte in reel), "stopped 6 0")
 

@@ -1,6 +1,6 @@
-"""Reels by their length: the empty one, one cut short at every place, and those at and above the most that `list` takes."""
+"""Reels by their length: the empty one, one cut short at every place, and those at and above the most that `list` takes (SPEC 8.2)."""
 
-from expected.reel import HEADER, LONGEST, WHOLE_CASE, WHOLE_LISTING, record
+from expected.reel import HEADER, LONGEST, WHOLE_LISTING, WHOLE_REEL, record
 from expected.reels.made import Case, good, joined, record_length
 from expected.sizes import HOUSE, SIZES
 
@@ -31,8 +31,8 @@ def filled(total):
 
 
 def short_reels():
-    """The whole case of document 01, the empty reel, and one record cut after each byte of its header and before its last byte."""
-    yield Case("the whole case", WHOLE_CASE, WHOLE_LISTING.rstrip("\n"))
+    """The whole reel of SPEC 10, the empty reel, and one record cut after each byte of its header and before its last byte."""
+    yield Case("the whole reel of SPEC 10", WHOLE_REEL, WHOLE_LISTING.rstrip("\n"))
     yield Case("empty", b"", "end 0")
     yield Case("one byte 00", b"\x00", "stopped 7 0")
     yield Case("one byte D5", b"\xd5", "stopped 7 0")

@@ -2,7 +2,7 @@
 
 from itertools import accumulate, pairwise
 
-from expected.reel import LONGEST, WHOLE_CASE
+from expected.reel import LONGEST, WHOLE_REEL
 from expected.reels.lengths import filled
 from expected.reels.made import joined, record_length
 
@@ -21,7 +21,7 @@ def cases():
     sound = filled(LONGEST)
     return {
         "nothing": [],
-        "the whole case byte by byte": cut_up(WHOLE_CASE, 1),
+        "the whole reel of SPEC 10 byte by byte": cut_up(WHOLE_REEL, 1),
         "record by record": cut_up(joined(sizes), *map(record_length, sizes)),
         "a byte, then 9 bytes at a time": cut_up(joined(sizes), 1, 9),
         "65536 bytes: one, then 1000 at a time": cut_up(sound, 1, 1000),

@@ -1,5 +1,5 @@
-"""Every refusal of a record, at the reel's start and behind good records, and the order of refusals where a record has several
-faults."""
+"""Every refusal of a record (SPEC 7.2), at the reel's start and behind good records, and the order of refusals where a record has several
+faults (SPEC 9.2)."""
 
 from itertools import product
 

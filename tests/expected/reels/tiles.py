@@ -1,4 +1,4 @@
-"""What is said of one tile: each kind of damage, the worked tiles of document 01, and hurt bytes at the small sizes."""
+"""What is said of one tile: each kind of damage, the worked tiles of SPEC 10, and hurt bytes at the small sizes."""
 
 from expected.reel import record
 from expected.reels.made import DAMAGE, Case, damaged, good, hurt, joined, one_byte_hurt
@@ -44,7 +44,7 @@ def worked_tiles():
 
 
 def one_byte():
-    """A lone hurt byte in every cell is reported as its column."""
+    """One hurt byte, in every cell: SPEC 5.3 answers with the column through it."""
     for p, l in ((5, 2), (5, 3), (7, 3), (7, 5)):
         for change in (0x01, 0x80, 0xFF):
             tiles = [one_byte_hurt(good(p, l), k, change) for k in range(tile_length(p))]
@@ -53,7 +53,7 @@ def one_byte():
 
 
 def two_bytes():
-    """Every two bytes changed alike, at 5 and at 7: a column, a row, or two lines that may look like one."""
+    """Every two bytes changed alike, at 5 and at 7: in a column, in a row, or in two lines, which one line may explain all the same."""
     for p, l in ((5, 2), (5, 3), (7, 3)):
         for first in range(tile_length(p)):
             once = one_byte_hurt(good(p, l), first)

@@ -1,4 +1,4 @@
--- `lettering::line::with_number` meets its contract: `io::decimal` makes the digits that document 01 asks for. Assumes nothing.
+-- `lettering::line::with_number` meets its contract: `io::decimal` makes the digits of SPEC 8.1. Assumes nothing.
 use native.Mathlib.Omega.{arith}
 use borrow.Author.Needs.{needs}
 use Rattle.lettering.specs.Decimal.{spelled}

@@ -1,0 +1,55 @@
+"""The life of one tile, as examples/c/captions.c tells it, from Python.
+
+    python3 captions.py [SHARED LIBRARY]
+"""
+
+import sys
+
+import counterfrost
+from counterfrost import Counterfrost, column, correction, row, text_length
+
+# A tile of size 17: 16 rows of 16 bytes, of which 14 are text.
+SIZE = 17
+ROWS = COLUMNS = SIZE - 1
+TEXT_COLUMNS = SIZE - 3
+
+CAPTION = b"- Who let the boat go?\n- The ferryman, at noom.\n- Then who is that on the far shore?"
+
+
+def scratch(tile, at):
+    """What a scratch does to a column."""
+    for i in range(ROWS):
+        tile[i * COLUMNS + at] ^= 0x55 + i
+
+
+def splice(tile, at):
+    """What a splice does to a row."""
+    tile[at * COLUMNS : (at + 1) * COLUMNS] = bytes(COLUMNS)
+
+
+def main():
+    library = Counterfrost(*sys.argv[1:])
+    slope = library.house_slope(SIZE)
+
+    tile = library.write(SIZE, slope, CAPTION.ljust(text_length(SIZE)))
+    print(f"written: size {SIZE}, slope {slope}")
+
+    splice(tile, 4)
+    scratch(tile, 9)
+    library.fill(SIZE, slope, tile, row(4), column(9))
+    print("filled: row 4 and column 9")
+
+    wrong_letter = CAPTION.index(b"noom") + 3
+    scratch(tile, wrong_letter % TEXT_COLUMNS)
+    sheet = correction(*divmod(wrong_letter, TEXT_COLUMNS), ord("m"), ord("n"))
+    print(f"corrected: {library.correct(SIZE, slope, tile, sheet)} letter")
+
+    print("repaired: {} {}".format(*library.repair(SIZE, slope, tile)))
+    print("read:", library.read(SIZE, slope, tile)[: len(CAPTION)].decode(), sep="\n")
+
+
+if __name__ == "__main__":
+    try:
+        main()
+    except counterfrost.Refused as no:
+        sys.exit(str(no))

@@ -1,0 +1,141 @@
+"""The calls of include/counterfrost.h for Python, by ctypes, from the shared library.
+
+Texts, sheets and reels come in as bytes, and tiles that a call may change as bytearrays; a refusal is raised as Refused.
+"""
+
+import ctypes
+from ctypes import byref, c_size_t, c_uint8, c_uint64
+
+NAMED_AS = "libcounterfrost.so.0.2"  # the calls below are those of this version
+
+KINDS = {1: "column", 2: "row"}
+
+WORDS = {
+    1: "the size is not one of the primes between 5 and 257",
+    2: "the slope cannot be used at this size",
+    3: "a tile or a text does not have the length of this size",
+    4: "the tile does not have that line, or its text that place",
+    5: "the tile is damaged, and this call cannot put it right",
+    6: "a record does not begin with its mark",
+    7: "a sheet or a reel ends within a record",
+}
+
+
+class Refused(Exception):
+    """Why a call says no: the number, and for a sheet or a reel the offset of the faulty record."""
+
+    def __init__(self, number, offset=0):
+        super().__init__(f"refused {number}: {WORDS[number]}")
+        self.number = number
+        self.offset = offset
+
+
+def row(number):
+    """A row, for fill."""
+    return min(number, 0x7FFF)
+
+
+def column(number):
+    """A column, for fill."""
+    return 0x8000 + min(number, 0x7FFF)
+
+
+def correction(row, column, was, now):
+    """One record of a sheet: in this place of the text stood the byte `was`, and `now` is to stand there."""
+    return b"\xc3\x3c" + row.to_bytes(2, "big") + column.to_bytes(2, "big") + bytes([was, now])
+
+
+def tile_length(p):
+    return (p - 1) * (p - 1)
+
+
+def text_length(p):
+    return (p - 1) * (p - 3)
+
+
+class Counterfrost:
+    """The library, loaded from a path, or from where the system looks for libraries."""
+
+    def __init__(self, path=NAMED_AS):
+        self._calls = ctypes.CDLL(path)
+
+    def _ask(self, name, *arguments):
+        """Makes a call and gives its kind and first number."""
+        call = getattr(self._calls, name)
+        call.restype = c_uint64
+        word = call(*arguments)
+        kind, first = word >> 32, word >> 16 & 0xFFFF
+        if kind == 4:
+            raise Refused(first)
+        return kind, first
+
+    def version(self):
+        """Major, minor and patch."""
+        self._calls.cf_version.restype = c_uint64
+        number = self._calls.cf_version()
+        return number // 10000, number // 100 % 100, number % 100
+
+    def house_slope(self, p):
+        """The slope to use at the size p, if nothing else is agreed."""
+        return self._ask("cf_house_slope", c_size_t(p))[1]
+
+    def check(self, p, l):
+        """Raises Refused unless p is a size and l a slope that can be used there."""
+        self._ask("cf_takes", c_size_t(p), c_size_t(l))
+
+    def write(self, p, l, text):
+        """The one good tile with that text."""
+        tile = bytearray(tile_length(p))
+        self._ask("cf_write", c_size_t(p), c_size_t(l), *_read_only(text), *_lent(tile))
+        return tile
+
+    def read(self, p, l, tile):
+        """The text of a good tile."""
+        text = bytearray(text_length(p))
+        self._ask("cf_read", c_size_t(p), c_size_t(l), *_read_only(tile), *_lent(text))
+        return bytes(text)
+
+    def repair(self, p, l, tile):
+        """Puts one hurt column or row right, in place, and names it: ("column", 3). None where nothing was hurt."""
+        kind, first = self._ask("cf_repair", c_size_t(p), c_size_t(l), *_lent(tile))
+        return (KINDS[kind], first) if kind in KINDS else None
+
+    def fill(self, p, l, tile, first, second):
+        """Fills one or two lost lines, in place; one line is named twice."""
+        self._ask("cf_fill", c_size_t(p), c_size_t(l), *_lent(tile), c_size_t(first), c_size_t(second))
+
+    def correct(self, p, l, tile, sheet):
+        """Corrects a tile, sound or damaged, by a sheet, in place, and counts its records."""
+        told = c_uint64()
+        try:
+            self._ask("cf_correct", c_size_t(p), c_size_t(l), *_lent(tile), *_read_only(sheet), byref(told))
+        except Refused as no:
+            raise Refused(no.number, told.value) from None
+        return told.value
+
+    def tiles(self, reel):
+        """The tiles of a reel, one after the other: number, p, l, and the tile's bytes."""
+        at = 0
+        while True:
+            number, p, l, offset = c_uint64(), c_uint64(), c_uint64(), c_uint64()
+            try:
+                kind, _ = self._ask(
+                    "cf_next", *_read_only(reel), c_size_t(at), byref(number), byref(p), byref(l), byref(offset)
+                )
+            except Refused as no:
+                raise Refused(no.number, offset.value) from None
+            if kind == 7:
+                return
+            at = offset.value + tile_length(p.value)
+            yield number.value, p.value, l.value, reel[offset.value : at]
+
+
+def _lent(memory):
+    """A bytearray as a pointer to its own bytes, and a length. A pointer must not be null, so that no bytes are lent as one that is not used."""
+    length = len(memory)
+    return (c_uint8 * max(length, 1)).from_buffer(memory if length else bytearray(1)), c_size_t(length)
+
+
+def _read_only(data):
+    """Bytes that the call only reads, likewise; they are copied."""
+    return (c_uint8 * max(len(data), 1)).from_buffer_copy(bytes(data) or b"\0"), c_size_t(len(data))
