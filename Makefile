@@ -13,7 +13,7 @@ DIST = counterfrost-$(VERSION)-linux-x86_64
 # How many crates, or edits, rt proves at a time: one more than there are cores, so that none is idle while the last of a batch is proved.
 export RT_JOBS ?= $(shell n=$$(nproc); echo $$((n < 4 ? n + 1 : 5)))
 
-.PHONY: help list lib install uninstall dist test check face bench reels expected clean target/bin/list
+.PHONY: help list lib install uninstall dist test check face bench reels expected clean kit target/bin/list
 
 help: ## at once             this list
 	@echo 'Counterfrost $(VERSION). What was proved once is not proved again: the times in brackets are for later runs.'
@@ -42,12 +42,12 @@ dist: lib target/bin/list ## 3 minutes (at once) a tar file with all that a user
 	@tools/pack "target/dist/$(DIST)"
 	@echo "target/dist/$(DIST).tar.gz"
 
-test: ## 8 minutes           the whole gate: everything proved from nothing, every wrong program tried, the library compared; removes target/
+test: kit ## 8 minutes           the whole gate: everything proved from nothing, every wrong program tried, the library compared; removes target/
 	@echo "kit: $$(rt version)"
 	@echo "pinned: $$(cat KIT)"
 	@.ci/gate
 
-check: ## 4 minutes (at once) proves all crates and runs the programs; with NAME=crate that one, and what it stands on
+check: kit ## 4 minutes (at once) proves all crates and runs the programs; with NAME=crate that one, and what it stands on
 	@rt check $(NAME)
 
 face: lib target/bin/list ## half a minute       once the library is built: header, examples, installation, tar file, calls compared
@@ -68,11 +68,14 @@ expected: ## seconds             works out again what the programs have to print
 clean: ## at once             removes target/, with all that was proved and built
 	@rm -rf target
 
+kit:
+	@command -v rt >/dev/null || { echo "the command rt of the Rattle kit is not on the path; README.md says what to do without the kit" >&2; exit 2; }
+
 # Proves `list` and builds it, where something has changed since. Standard output is kept for the listing.
-target/bin/list:
+target/bin/list: kit
 	@tools/prove list
 
-$(ARCHIVE): crates.txt $(shell find crates -name '*.rt' -o -name '*.antt')
+$(ARCHIVE): crates.txt $(shell find crates -name '*.rt' -o -name '*.antt') | kit
 	@tools/prove --archive counterfrost
 
 $(SHARED): $(ARCHIVE) packaging/exports

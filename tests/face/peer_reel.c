@@ -29,7 +29,7 @@ static enum refusal judge_record(const uint8_t *record, size_t there)
     return refusal;
 }
 
-/* SPEC 7.2: the end, a no with the offset that was asked for, or a tile. SPEC 11.2 for the four numbers. */
+/* SPEC 7.2: the end, a refusal with the offset that was asked for, or a tile. SPEC 11.2 for the four numbers. */
 uint64_t peer_next(const uint8_t *reel, size_t reel_len, size_t at, uint64_t *number, uint64_t *p, uint64_t *l, uint64_t *offset)
 {
     *number = *p = *l = *offset = 0;

@@ -1,5 +1,5 @@
 -- The change that settles given sums within two lines: it always exists in two columns and in two rows, and in a row with a column
--- exactly if the two sums through the crossing agree. All that is asked of the sums is that their totals are the same. Assumes nothing.
+-- exactly if the sums of the two diagonals through the crossing agree. All that is asked of the sums is that their totals are the same. Assumes nothing.
 use mathlib.Core.Path.{_≡_, sym, ap, _∙_}
 use mathlib.Core.Logic.{_≢_}
 use Prim.Native.Nat.{ℕ, _+_, _-_, _*_, _%_, _<_}

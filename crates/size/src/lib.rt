@@ -1,5 +1,4 @@
-// Which sizes and slopes are taken, the house slope of each size, and the numbers for no. Every call that is told a size and a
-// slope judges them here.
+// Judges sizes and slopes, for every call that is told some; the house slope of a size; the numbers for no.
 ghost use mathlib.Core.Path.{_≡_};
 ghost use Rattle.residue.specs.Size.{Size, Allowed};
 ghost use Rattle.code.specs.Says.{Says};
