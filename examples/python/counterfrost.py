@@ -77,38 +77,40 @@ class Counterfrost:
 
     def house_slope(self, p):
         """The slope to use at the size p, if nothing else is agreed."""
-        return self._ask("cf_house_slope", c_size_t(p))[1]
+        return self._ask("cf_house_slope", _number(p))[1]
 
     def check(self, p, l):
         """Raises Refused unless p is a size and l a slope that can be used there."""
-        self._ask("cf_takes", c_size_t(p), c_size_t(l))
+        self._ask("cf_takes", _number(p), _number(l))
 
     def write(self, p, l, text):
-        """The one good tile with that text."""
+        """The good tile that has the text."""
+        self.check(p, l)
         tile = bytearray(tile_length(p))
-        self._ask("cf_write", c_size_t(p), c_size_t(l), *_read_only(text), *_lent(tile))
+        self._ask("cf_write", _number(p), _number(l), *_read_only(text), *_lent(tile))
         return tile
 
     def read(self, p, l, tile):
         """The text of a good tile."""
+        self.check(p, l)
         text = bytearray(text_length(p))
-        self._ask("cf_read", c_size_t(p), c_size_t(l), *_read_only(tile), *_lent(text))
+        self._ask("cf_read", _number(p), _number(l), *_read_only(tile), *_lent(text))
         return bytes(text)
 
     def repair(self, p, l, tile):
         """Puts one hurt column or row right, in place, and names it: ("column", 3). None where nothing was hurt."""
-        kind, first = self._ask("cf_repair", c_size_t(p), c_size_t(l), *_lent(tile))
+        kind, first = self._ask("cf_repair", _number(p), _number(l), *_lent(tile))
         return (KINDS[kind], first) if kind in KINDS else None
 
     def fill(self, p, l, tile, first, second):
         """Fills one or two lost lines, in place; one line is named twice."""
-        self._ask("cf_fill", c_size_t(p), c_size_t(l), *_lent(tile), c_size_t(first), c_size_t(second))
+        self._ask("cf_fill", _number(p), _number(l), *_lent(tile), _number(first), _number(second))
 
     def correct(self, p, l, tile, sheet):
         """Corrects a tile, sound or damaged, by a sheet, in place, and counts its records."""
         told = c_uint64()
         try:
-            self._ask("cf_correct", c_size_t(p), c_size_t(l), *_lent(tile), *_read_only(sheet), byref(told))
+            self._ask("cf_correct", _number(p), _number(l), *_lent(tile), *_read_only(sheet), byref(told))
         except Refused as no:
             raise Refused(no.number, told.value) from None
         return told.value
@@ -120,7 +122,7 @@ class Counterfrost:
             number, p, l, offset = c_uint64(), c_uint64(), c_uint64(), c_uint64()
             try:
                 kind, _ = self._ask(
-                    "cf_next", *_read_only(reel), c_size_t(at), byref(number), byref(p), byref(l), byref(offset)
+                    "cf_next", *_read_only(reel), _number(at), byref(number), byref(p), byref(l), byref(offset)
                 )
             except Refused as no:
                 raise Refused(no.number, offset.value) from None
@@ -130,8 +132,13 @@ class Counterfrost:
             yield number.value, p.value, l.value, reel[offset.value : at]
 
 
+def _number(n):
+    """A number as C takes it. One that C does not have is given as the largest, which is no size, slope, line or place."""
+    return c_size_t(n if 0 <= n < 2**64 else 2**64 - 1)
+
+
 def _lent(memory):
-    """A bytearray as a pointer to its own bytes, and a length. A pointer must not be null, so that no bytes are lent as one that is not used."""
+    """A bytearray as a pointer to its own bytes, and a length. No pointer may be null, so an empty one is lent as one byte that is not used."""
     length = len(memory)
     return (c_uint8 * max(length, 1)).from_buffer(memory if length else bytearray(1)), c_size_t(length)
 

@@ -1,0 +1,61 @@
+"""Tries examples/python/counterfrost.py where its program does not go: refusals, and numbers that C does not have.
+
+    tests/python tests/binding.py EXAMPLES SHARED-LIBRARY VERSION
+"""
+
+import sys
+
+sys.path.insert(0, sys.argv[1] + "/python")
+
+from counterfrost import Counterfrost, Refused, column, correction, row
+
+library = Counterfrost(sys.argv[2])
+version = sys.argv[3]
+
+
+def refusal(call, *arguments):
+    """The number and the offset of the refusal that a call has to give."""
+    try:
+        call(*arguments)
+    except Refused as no:
+        return no.number, no.offset
+    return None
+
+
+# The whole reel of SPEC 10.
+REEL = bytes.fromhex("D55D0005000200000007" + "00" * 16 + "D55D0005000200000008" + "00" * 11 + "41" + "00" * 4 + "00")
+
+
+def walk():
+    """The tiles of the reel up to its refusal, and that."""
+    listed = []
+    try:
+        for number, p, l, tile in library.tiles(REEL):
+            listed.append((number, p, l, library.repair(p, l, bytearray(tile))))
+    except Refused as no:
+        return listed, (no.number, no.offset)
+    return listed, None
+
+
+zeros = bytearray(16)
+checks = {
+    "the version": (".".join(map(str, library.version())), version),
+    "no size": ([refusal(library.house_slope, p) for p in (0, 4, 258, -1, 2**64 + 5)], [(1, 0)] * 5),
+    "sizes": ([library.house_slope(p) for p in (5, 7, 191, 257)], [2, 3, 19, 3]),
+    "no slope": ([refusal(library.check, 7, l) for l in (2, 6, 10, -1, 2**64 + 3)], [(2, 0)] * 5),
+    "slopes": ([refusal(library.check, 7, l) for l in (3, 5)], [None, None]),
+    "no size to write or read": ([refusal(library.write, 2, 2, b""), refusal(library.read, 2**70, 2, b"")], [(1, 0)] * 2),
+    "no length": ([refusal(library.write, 5, 2, b""), refusal(library.repair, 5, 2, bytearray(15))], [(3, 0)] * 2),
+    "no line": ([refusal(library.fill, 5, 2, bytearray(16), a, row(0)) for a in (row(4), column(4), row(-1), row(2**70))], [(4, 0)] * 4),
+    "no place": (refusal(library.correct, 5, 2, zeros, correction(0, 1, 0, 1) + correction(0, 2, 0, 1)), (4, 8)),
+    "nothing was changed": (zeros, bytes(16)),
+    "an empty sheet": (library.correct(5, 2, zeros, b""), 0),
+    "not good": (refusal(library.read, 5, 2, b"\x01" + bytes(15)), (5, 0)),
+    "worked tile 1": (library.write(5, 2, bytes([1] + [0] * 7)).hex(), "01000001000001010000010000000100"),
+    "the whole reel": (walk(), ([(7, 5, 2, None), (8, 5, 2, ("column", 3))], (7, 52))),
+    "the empty reel": (list(library.tiles(b"")), []),
+}
+wrong = {name: got for name, (got, asked) in checks.items() if got != asked}
+for name, got in wrong.items():
+    print(f"binding: {name}: {got}")
+sys.exit(1 if wrong else 0)
