@@ -13,7 +13,15 @@ DIST = counterfrost-$(VERSION)-linux-x86_64
 # How many crates, or edits, rt proves at a time: one more than there are cores, so that none is idle while the last of a batch is proved.
 export RT_JOBS ?= $(shell n=$$(nproc); echo $$((n < 4 ? n + 1 : 5)))
 
-.PHONY: help list lib install uninstall dist test check face bench reels expected clean kit target/bin/list
+TARGETS = help list lib install uninstall dist test check face bench reels expected clean
+.PHONY: $(TARGETS) kit target/bin/list
+
+# A reel that is named without REEL= would be passed over, and another one listed.
+ifneq ($(filter list,$(MAKECMDGOALS)),)
+ifneq ($(filter-out $(TARGETS),$(MAKECMDGOALS)),)
+$(error a reel is named so: make list REEL=$(firstword $(filter-out $(TARGETS),$(MAKECMDGOALS))))
+endif
+endif
 
 help: ## at once             this list
 	@echo 'Counterfrost $(VERSION). What was proved once is not proved again: the times in brackets are for later runs.'
@@ -30,11 +38,11 @@ lib: $(ARCHIVE) $(SHARED) ## 2 minutes (at once) proves the library for C and bu
 install: lib target/bin/list ## 3 minutes (at once) puts library, header and program below PREFIX, /usr/local if none is named
 	@tools/place "$(DESTDIR)$(PREFIX)" $(VERSION) $(SONAME) $(ARCHIVE) $(SHARED)
 	@echo "installed below $(DESTDIR)$(PREFIX): bin/counterfrost-list, include/counterfrost.h, and in lib the archive and the shared library"
-	@echo "to compile with it: export PKG_CONFIG_PATH=$(abspath $(PREFIX))/lib/pkgconfig"
+	@echo "to compile with it: export PKG_CONFIG_PATH=\"$$(realpath -m -- "$(PREFIX)")/lib/pkgconfig\""
+	@[ "$$(uname -m)" = x86_64 ] || echo "all of it is for x86-64, which this machine is not: README.md says how to use it here"
 
 uninstall: ## at once             takes away what install puts below PREFIX
 	@tools/place --remove "$(DESTDIR)$(PREFIX)"
-	@echo "removed from $(DESTDIR)$(PREFIX)"
 
 dist: lib target/bin/list ## 3 minutes (at once) a tar file with all that a user needs, and no need of the kit: target/dist
 	@rm -rf target/dist && mkdir -p target/dist
@@ -58,8 +66,8 @@ bench: lib ## 3 minutes           once the library is built: measures it, and wr
 	@bench/install
 	@bench/run $(ARCHIVE)
 
-reels: target/bin/list ## half a minute       lists some thousand reels, and compares (needs python3, on x86-64)
-	@python3 tests/reels.py target/bin/list
+reels: target/bin/list ## a minute            lists some thousand reels, and compares (needs python3)
+	@python3 tests/reels.py tests/run-made target/bin/list
 
 expected: ## seconds             works out again what the programs have to print, and compares (needs python3)
 	@python3 tests/expected_worked.py | diff - crates/worked/stdout && echo "crates/worked/stdout is what SPEC asks for"

@@ -1,5 +1,5 @@
 /*
- * Counterfrost: square tiles of bytes that can be repaired.
+ * Counterfrost: square tiles of bytes that can be repaired. For C99 and later, and for C++.
  *
  * A tile holds a text and two columns of checks. If one row or one column of it is hurt, cf_repair finds the line and puts it right
  * without being told which. If one or two lines are lost and you know which, cf_fill fills them in. cf_correct changes single bytes
@@ -108,10 +108,10 @@ uint64_t cf_read(size_t p, size_t l, const uint8_t *tile, size_t tile_len, uint8
 uint64_t cf_repair(size_t p, size_t l, uint8_t *tile, size_t tile_len);
 
 /*
- * Fills one or two lost lines, whatever bytes they hold now. Each line is named by cf_row or cf_column (a row by its number, a column by
- * 8000 hex plus its number); for one line, name it twice. It becomes the only good tile that is the same elsewhere. CF_KIND_DONE, or
- * refused 1, 2, 3, 4 for a line that the tile does not have, or 5 where there is no such tile. Two rows, or two columns, can always be
- * filled.
+ * Fills one or two lost lines, whatever bytes they hold now. Each line is named by cf_row(3) or cf_column(3), ALWAYS: a bare number is taken
+ * for a row, and a column is 8000 hex plus its number. For one line, name it twice. The tile becomes the only good one that is the same
+ * outside these lines. CF_KIND_DONE, or refused 1, 2, 3, 4 for a line that the tile does not have, or 5 where there is no such tile. Two
+ * rows, or two columns, can always be filled.
  */
 uint64_t cf_fill(size_t p, size_t l, uint8_t *tile, size_t tile_len, size_t first, size_t second);
 
@@ -121,7 +121,8 @@ uint64_t cf_fill(size_t p, size_t l, uint8_t *tile, size_t tile_len, size_t firs
  * repaired as before. What "was" says is not compared with the tile.
  *
  * CF_KIND_DONE, with the number of records in *count_or_offset. Refused 1, 2, 3 or 7, with 0 there; or 6 or 4, with the offset of the first
- * faulty record (6 if that record has both faults). The whole sheet is judged before the tile is touched. *count_or_offset is set by every call.
+ * faulty record (6 if that record has both faults). The whole sheet is judged before the tile is touched. *count_or_offset is set by every
+ * call.
  */
 uint64_t cf_correct(size_t p, size_t l, uint8_t *tile, size_t tile_len, const uint8_t *sheet, size_t sheet_len,
                     uint64_t *count_or_offset);
@@ -162,7 +163,7 @@ static inline const char *cf_refusal_words(unsigned refusal)
     case CF_BAD_PLACE:
         return "the tile does not have that line, or its text that place";
     case CF_DAMAGED:
-        return "the tile is damaged, and this call cannot put it right";
+        return "the tile is damaged: no such repair exists, or it has to be repaired before it is read";
     case CF_BAD_MARK:
         return "a record does not begin with its mark";
     case CF_CUT_SHORT:

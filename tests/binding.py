@@ -31,7 +31,7 @@ def walk():
     listed = []
     try:
         for number, p, l, tile in library.tiles(REEL):
-            listed.append((number, p, l, library.repair(p, l, bytearray(tile))))
+            listed.append((number, p, l, library.repair(p, l, tile)))
     except Refused as no:
         return listed, (no.number, no.offset)
     return listed, None
@@ -48,6 +48,7 @@ checks = {
     "no length": ([refusal(library.write, 5, 2, b""), refusal(library.repair, 5, 2, bytearray(15))], [(3, 0)] * 2),
     "no line": ([refusal(library.fill, 5, 2, bytearray(16), a, row(0)) for a in (row(4), column(4), row(-1), row(2**70))], [(4, 0)] * 4),
     "no place": (refusal(library.correct, 5, 2, zeros, correction(0, 1, 0, 1) + correction(0, 2, 0, 1)), (4, 8)),
+    "no place at all": (refusal(library.correct, 5, 2, zeros, correction(2**70, -1, 0, 1)), (4, 0)),
     "nothing was changed": (zeros, bytes(16)),
     "an empty sheet": (library.correct(5, 2, zeros, b""), 0),
     "not good": (refusal(library.read, 5, 2, b"\x01" + bytes(15)), (5, 0)),

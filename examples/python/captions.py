@@ -51,5 +51,5 @@ def main():
 if __name__ == "__main__":
     try:
         main()
-    except counterfrost.Refused as no:
+    except (counterfrost.Refused, OSError) as no:
         sys.exit(str(no))

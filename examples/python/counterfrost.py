@@ -4,6 +4,7 @@ Texts, sheets and reels come in as bytes, and tiles that a call may change as by
 """
 
 import ctypes
+import platform
 from ctypes import byref, c_size_t, c_uint8, c_uint64
 
 NAMED_AS = "libcounterfrost.so.0.2"  # the calls below are those of this version
@@ -15,7 +16,7 @@ WORDS = {
     2: "the slope cannot be used at this size",
     3: "a tile or a text does not have the length of this size",
     4: "the tile does not have that line, or its text that place",
-    5: "the tile is damaged, and this call cannot put it right",
+    5: "the tile is damaged: no such repair exists, or it has to be repaired before it is read",
     6: "a record does not begin with its mark",
     7: "a sheet or a reel ends within a record",
 }
@@ -42,7 +43,7 @@ def column(number):
 
 def correction(row, column, was, now):
     """One record of a sheet: in this place of the text stood the byte `was`, and `now` is to stand there."""
-    return b"\xc3\x3c" + row.to_bytes(2, "big") + column.to_bytes(2, "big") + bytes([was, now])
+    return b"\xc3\x3c" + _two_bytes(row) + _two_bytes(column) + bytes([was, now])
 
 
 def tile_length(p):
@@ -57,6 +58,8 @@ class Counterfrost:
     """The library, loaded from a path, or from where the system looks for libraries."""
 
     def __init__(self, path=NAMED_AS):
+        if platform.machine() not in ("x86_64", "AMD64"):
+            raise OSError(f"{path} is for x86-64, and this Python is for {platform.machine()}")
         self._calls = ctypes.CDLL(path)
 
     def _ask(self, name, *arguments):
@@ -116,7 +119,7 @@ class Counterfrost:
         return told.value
 
     def tiles(self, reel):
-        """The tiles of a reel, one after the other: number, p, l, and the tile's bytes."""
+        """The tiles of a reel of any length, one after the other: number, p, l, and a copy of the tile, which repair may change."""
         at = 0
         while True:
             number, p, l, offset = c_uint64(), c_uint64(), c_uint64(), c_uint64()
@@ -129,7 +132,12 @@ class Counterfrost:
             if kind == 7:
                 return
             at = offset.value + tile_length(p.value)
-            yield number.value, p.value, l.value, reel[offset.value : at]
+            yield number.value, p.value, l.value, bytearray(reel[offset.value : at])
+
+
+def _two_bytes(n):
+    """A row or a column on a sheet. One that two bytes cannot say is laid as the largest, which no text has."""
+    return (n if 0 <= n < 2**16 else 2**16 - 1).to_bytes(2, "big")
 
 
 def _number(n):
