@@ -66,7 +66,7 @@ bench: lib ## 3 minutes           once the library is built: measures it, and wr
 	@bench/install
 	@bench/run $(ARCHIVE)
 
-reels: target/bin/list ## a minute            lists some thousand reels, and compares (needs python3)
+reels: target/bin/list ## 1 to 2 minutes      lists some thousand reels, and compares (needs python3)
 	@python3 tests/reels.py tests/run-made target/bin/list
 
 expected: ## seconds             works out again what the programs have to print, and compares (needs python3)
