@@ -20,17 +20,13 @@ pub house-fits : {p : ℕ} {said : size.Said} → size.HouseTold p said → Fits
 house-fits (size.given s h) = (omega (arith, s .high, h .allowed .high), omega arith)
 house-fits (size.no-size f) = (omega arith, omega arith)
 
-judged-fits : {p l n : ℕ} → size.Judged p l (size.refused n) → Fits (refusal n)
-judged-fits (size.no-size f) = (omega arith, omega arith)
-judged-fits (size.no-slope s f) = (omega arith, omega arith)
-
 pub takes-fits : {p l : ℕ} {said : size.Said} → size.Judged p l said → Fits (sizeAnswer said)
 takes-fits (size.taken s a) = (omega arith, omega arith)
 takes-fits (size.no-size f) = (omega arith, omega arith)
 takes-fits (size.no-slope s f) = (omega arith, omega arith)
 
 admitted-fits : {p l n : ℕ} {Lengths : Type 0} → Admitted p l Lengths (size.refused n) → Fits (refusal n)
-admitted-fits (judged j) = judged-fits j
+admitted-fits (judged j) = takes-fits j
 admitted-fits (no-length j f) = (omega arith, omega arith)
 
 pub write-fits : {p l : ℕ} {text x y : List ℕ} {said : tile.Said} → WriteTold p l text x said y → Fits (tileAnswer said)
@@ -70,6 +66,6 @@ pub next-fits : {film : List ℕ} {at : ℕ} {said : reel.Said} → reel-calls.N
 next-fits (reel-calls.ends e) = (omega arith, omega arith)
 next-fits (reel-calls.header-cut e h) = (omega arith, omega arith)
 next-fits (reel-calls.no-mark h m) = (omega arith, omega arith)
-next-fits (reel-calls.refuses h m j) = judged-fits j
+next-fits (reel-calls.refuses h m j) = takes-fits j
 next-fits (reel-calls.body-cut h m j w) = (omega arith, omega arith)
 next-fits (reel-calls.stands w m j) = (omega arith, omega arith)

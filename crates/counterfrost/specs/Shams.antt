@@ -55,7 +55,7 @@ refusal-told-done t = omega (arith, house-word-once 4 (word (refusal 1)) (word (
 taken-5-2 : TakesWorded 5 2 (word done)
 taken-5-2 = record { said = size.well; right = size.taken size-5 at-5-2; is = refl }
 
--- neither 4 is a size, nor 0 a slope
+-- 4 is no size, and 0 is nowhere a slope
 refused-4 : TakesWorded 4 0 (word (refusal 1))
 refused-4 = record { said = size.refused 1; right = size.no-size (λ s. omega (arith, s .low)); is = refl }
 
