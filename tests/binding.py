@@ -1,13 +1,15 @@
-"""Tries examples/python/counterfrost.py where its program does not go: refusals, and numbers that C does not have.
+"""Tries examples/python/counterfrost.py where its program does not go: refusals, their words, and numbers that C does not have.
 
     tests/python tests/binding.py EXAMPLES SHARED-LIBRARY VERSION
 """
 
+import re
 import sys
+from pathlib import Path
 
 sys.path.insert(0, sys.argv[1] + "/python")
 
-from counterfrost import Counterfrost, Refused, column, correction, row
+from counterfrost import WORDS, Counterfrost, Refused, column, correction, row
 
 library = Counterfrost(sys.argv[2])
 version = sys.argv[3]
@@ -37,9 +39,12 @@ def walk():
     return listed, None
 
 
+HEADER = (Path(sys.argv[2]).parent.parent / "include" / "counterfrost.h").read_text()
+
 zeros = bytearray(16)
 checks = {
     "the version": (".".join(map(str, library.version())), version),
+    "the header's words": (list(WORDS.values()), re.findall(r'case CF_[A-Z_]+:\s+return "([^"]+)"', HEADER)),
     "no size": ([refusal(library.house_slope, p) for p in (0, 4, 258, -1, 2**64 + 5)], [(1, 0)] * 5),
     "sizes": ([library.house_slope(p) for p in (5, 7, 191, 257)], [2, 3, 19, 3]),
     "no slope": ([refusal(library.check, 7, l) for l in (2, 6, 10, -1, 2**64 + 3)], [(2, 0)] * 5),
