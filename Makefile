@@ -15,6 +15,8 @@ export RT_JOBS ?= $(shell n=$$(nproc); echo $$((n < 4 ? n + 1 : 5)))
 
 TARGETS = help list lib install uninstall dist test check face bench reels expected clean
 .PHONY: $(TARGETS) kit target/bin/list
+# Two that prove at once in one folder would get in each other's way.
+.NOTPARALLEL:
 
 # A reel that is named without REEL= would be passed over, and another one listed.
 ifneq ($(filter list,$(MAKECMDGOALS)),)

@@ -7,15 +7,15 @@
  *
  * SIZES AND SLOPES
  *   The size p says how large a tile is: one byte less than p in each direction, so that size 5 is a tile of 4 by 4 bytes, and 257 one of
- *   256 by 256. It is one of the 53 primes between 5 and 257. A tile lies row by row in (p-1)*(p-1) bytes. Rows and columns count from 0.
- *   The last two columns, p-3 and p-2, hold the checks; the text stands in the p-3 columns before them, and by itself lies row by
+ *   256 by 256. It is one of the 53 primes between 5 and 257. A tile lies row by row in (p-1)*(p-1) bytes. Rows and columns are numbered
+ *   from 0. The last two columns, p-3 and p-2, hold the checks; the text stands in the p-3 columns before them, and by itself lies row by
  *   row in (p-1)*(p-3) bytes.
  *   The slope l says how the checks run across the tile. Take the house slope that cf_house_slope gives, unless you and those who wrote
  *   the tile agreed on another: a tile is read and repaired with the size and the slope that it was written with. Which other slopes
  *   there are is told by cf_takes. docs/SPEC.md has the rules.
  *
  * ANSWERS
- *   Every call answers one 64-bit word: a kind, and two numbers. cf_kind, cf_first and cf_second take it apart.
+ *   Every call but cf_version answers one 64-bit word: a kind, and two numbers. cf_kind, cf_first and cf_second take it apart.
  *
  *     kind              first          means
  *     CF_KIND_DONE      0              done; for cf_repair: nothing was hurt; for cf_next: a tile stands here
@@ -91,19 +91,19 @@ uint64_t cf_house_slope(size_t p);
 /* Whether p is a size and l a slope that can be used there; no tile is needed to ask. CF_KIND_DONE, or refused 1 or 2. */
 uint64_t cf_takes(size_t p, size_t l);
 
-/* Writes the one good tile with that text; what the tile held before does not matter. CF_KIND_DONE, or refused 1, 2 or 3. */
+/* Writes the good tile that has the text; what the tile held before does not matter. CF_KIND_DONE, or refused 1, 2 or 3. */
 uint64_t cf_write(size_t p, size_t l, const uint8_t *text, size_t text_len, uint8_t *tile, size_t tile_len);
 
-/* Reads the text of a good tile. CF_KIND_DONE, or refused 1, 2, 3, or 5 for a tile that is not good: repair that one first. */
+/* Reads the text out of a good tile. CF_KIND_DONE, or refused 1, 2, 3, or 5 for a tile that is not good: repair that one first. */
 uint64_t cf_read(size_t p, size_t l, const uint8_t *tile, size_t tile_len, uint8_t *text, size_t text_len);
 
 /*
  * Repairs a tile of which one column or one row may be hurt. CF_KIND_DONE: it is good, and was not touched. CF_KIND_COLUMN or
- * CF_KIND_ROW: a good tile differs from it in that line alone, and the tile is now that one. Columns are tried first, from 0 upward, then
- * rows; a lone hurt byte is therefore told as its column. Refused 1, 2, 3, or 5 where no good tile differs from it in one line alone.
+ * CF_KIND_ROW: the tile is now the good one that is the same outside this line. All columns are tried before the rows, each in order; if a
+ * single byte was hurt, the answer is its column. Refused 1, 2, 3, or 5 where no line can be put right so that the tile is good.
  *
- * Two hurt lines can look like one. A tile that is repaired is good; that it is the tile that was printed, nobody can promise if more
- * than one line was hurt.
+ * A repaired tile is always good. If more than one line was hurt it may be another good tile than the one that was printed, and no reader
+ * could tell: if you know the lines, use cf_fill.
  */
 uint64_t cf_repair(size_t p, size_t l, uint8_t *tile, size_t tile_len);
 
@@ -121,7 +121,7 @@ uint64_t cf_fill(size_t p, size_t l, uint8_t *tile, size_t tile_len, size_t firs
  * repaired as before. What "was" says is not compared with the tile.
  *
  * CF_KIND_DONE, with the number of records in *count_or_offset. Refused 1, 2, 3 or 7, with 0 there; or 6 or 4, with the offset of the first
- * faulty record (6 if that record has both faults). The whole sheet is judged before the tile is touched. *count_or_offset is set by every
+ * faulty record (6 if that record has both faults). Nothing is changed before all records are judged. *count_or_offset is set by every
  * call.
  */
 uint64_t cf_correct(size_t p, size_t l, uint8_t *tile, size_t tile_len, const uint8_t *sheet, size_t sheet_len,
@@ -129,11 +129,11 @@ uint64_t cf_correct(size_t p, size_t l, uint8_t *tile, size_t tile_len, const ui
 
 /*
  * Says what stands at a place of a reel. A reel is a run of records without gaps, each the mark D5 5D, p (2 bytes, the high one first),
- * l (2 bytes), the tile's number (4 bytes), and the tile's bytes. Offsets count from the reel's first byte; begin with place 0.
+ * l (2 bytes), the tile's number (4 bytes), and the tile's bytes. A place is an offset from the beginning of the reel; begin with 0.
  *
- * CF_KIND_DONE: a tile, with its number, p and l, and the offset of its bytes; the next record stands at that offset plus cf_tile_len(p).
- * CF_KIND_END: the place is at or past the reel's end. Refused 7 (fewer than 10 bytes are left), 6, 1, 2, or 7 (fewer than the tile needs),
- * with the place itself in *offset. All four numbers are set by every call, to 0 where there is no value. The tile is not judged: it
+ * CF_KIND_DONE: a tile. You get its number, its p and l, and the offset where its bytes begin; the next record is at that offset plus
+ * cf_tile_len(p). CF_KIND_END: the reel has no byte at the place. Refused 7 (the header, of 10 bytes, is cut), 6, 1, 2, or 7 (the tile is
+ * cut), with the place itself in *offset. All four numbers are set by every call, to 0 where there is no value. The tile is not judged: it
  * may be hurt. To repair it, copy its bytes first, or let the reel be yours to change.
  */
 uint64_t cf_next(const uint8_t *reel, size_t reel_len, size_t at, uint64_t *number, uint64_t *p, uint64_t *l, uint64_t *offset);

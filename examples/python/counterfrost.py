@@ -94,7 +94,7 @@ class Counterfrost:
         return tile
 
     def read(self, p, l, tile):
-        """The text of a good tile."""
+        """The text out of a good tile."""
         self.check(p, l)
         text = bytearray(text_length(p))
         self._ask("cf_read", _number(p), _number(l), *_read_only(tile), *_lent(text))

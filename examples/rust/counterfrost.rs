@@ -30,7 +30,7 @@ pub enum Line {
     Column(u8),
 }
 
-/// A tile on a reel: its number, size and slope, and the offset of its bytes.
+/// A tile on a reel: its number, size and slope, and the offset where its bytes begin.
 #[derive(Debug, PartialEq, Eq)]
 pub struct Tile {
     pub number: u64,
@@ -71,12 +71,12 @@ pub fn takes(p: usize, l: usize) -> Result<(), Refused> {
     taken(unsafe { c::cf_takes(p, l) }, 0).map(|_| ())
 }
 
-/// Writes the one good tile with that text.
+/// Writes the good tile that has the text.
 pub fn write(p: usize, l: usize, text: &[u8], tile: &mut [u8]) -> Result<(), Refused> {
     taken(unsafe { c::cf_write(p, l, text.as_ptr(), text.len(), tile.as_mut_ptr(), tile.len()) }, 0).map(|_| ())
 }
 
-/// Reads the text of a good tile.
+/// Reads the text out of a good tile.
 pub fn read(p: usize, l: usize, tile: &[u8], text: &mut [u8]) -> Result<(), Refused> {
     taken(unsafe { c::cf_read(p, l, tile.as_ptr(), tile.len(), text.as_mut_ptr(), text.len()) }, 0).map(|_| ())
 }
