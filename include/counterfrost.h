@@ -2,8 +2,9 @@
  * Counterfrost: square tiles of bytes that can be repaired. For C99 and later, and for C++.
  *
  * A tile holds a text and two columns of checks. If one row or one column of it is hurt, cf_repair finds the line and puts it right
- * without being told which. If one or two lines are lost and you know which, cf_fill fills them in. cf_correct changes single bytes
- * of the text on a tile that may itself be hurt. Where there is no answer, a call says so by a number and touches nothing.
+ * without being told which; if that was a single byte, it finds the very cell. If one or two lines are lost and you know which, cf_fill
+ * fills them in. cf_correct changes single bytes of the text on a tile that may itself be hurt. Where there is no answer, a call says so by
+ * a number and touches nothing.
  *
  * SIZES AND SLOPES
  *   The size p says how large a tile is: one byte less than p in each direction, so that size 5 is a tile of 4 by 4 bytes, and 257 one of
@@ -17,15 +18,18 @@
  * ANSWERS
  *   Every call but cf_version answers one 64-bit word: a kind, and two numbers. cf_kind, cf_first and cf_second take it apart.
  *
- *     kind              first          means
- *     CF_KIND_DONE      0              done; for cf_repair: nothing was hurt; for cf_next: a tile stands here
- *     CF_KIND_DONE      the slope      for cf_house_slope only
- *     CF_KIND_COLUMN    the column     cf_repair put this column right
- *     CF_KIND_ROW       the row        cf_repair put this row right
- *     CF_KIND_REFUSED   the number     refused; see below
- *     CF_KIND_END       0              cf_next: the reel ends here
+ *     kind              first         second        means
+ *     CF_KIND_DONE      0             0             done; for cf_repair: nothing was hurt; for cf_next: a tile stands here
+ *     CF_KIND_DONE      the slope     0             for cf_house_slope only
+ *     CF_KIND_COLUMN    the column    0             cf_repair put two bytes or more right, all in this column
+ *     CF_KIND_ROW       the row       0             cf_repair put two bytes or more right, all in this row
+ *     CF_KIND_CELL      the row       the column    cf_repair put one byte right, in this cell
+ *     CF_KIND_REFUSED   the number    0             refused; see below
+ *     CF_KIND_END       0             0             cf_next: the reel ends here
  *
- *   The second number is 0 in each of these. CF_KIND_CELL is kept for a later answer, with the row first and the column second.
+ *   Up to version 0.2.0 a single hurt byte was told as CF_KIND_COLUMN, with its column, and CF_KIND_CELL was never answered. A program that
+ *   was written for such a version has to take CF_KIND_CELL too, which has the column as its second number. All else that is answered, and
+ *   all bytes of a repaired tile, are as they were.
  *
  * REFUSALS
  *   A refused call changes no byte of a tile or text. Its number says why, and cf_refusal_words has words for it. Where several apply, the
@@ -62,8 +66,8 @@ extern "C" {
 
 /* The version of this header: 10000 times the first of its numbers, 100 times the second, and the third. cf_version gives that of the
  * library. Until 1.0.0 calls may change where the second number does; the shared library is named by these two. */
-#define CF_VERSION 200
-#define CF_VERSION_TEXT "0.2.0"
+#define CF_VERSION 300
+#define CF_VERSION_TEXT "0.3.0"
 
 /* The kinds of an answer. The lines that cf_fill is given are named by cf_row and cf_column, further below, and not by these. */
 #define CF_KIND_DONE 0u
@@ -98,9 +102,10 @@ uint64_t cf_write(size_t p, size_t l, const uint8_t *text, size_t text_len, uint
 uint64_t cf_read(size_t p, size_t l, const uint8_t *tile, size_t tile_len, uint8_t *text, size_t text_len);
 
 /*
- * Repairs a tile of which one column or one row may be hurt. CF_KIND_DONE: it is good, and was not touched. CF_KIND_COLUMN or
- * CF_KIND_ROW: the tile is now the good one that is the same outside this line. All columns are tried before the rows, each in order; if a
- * single byte was hurt, the answer is its column. Refused 1, 2, 3, or 5 where no line can be put right so that the tile is good.
+ * Repairs a tile of which one column or one row may be hurt. CF_KIND_DONE: it is good, and was not touched. Otherwise it becomes the good
+ * tile that can be had by changing one line alone; there are never two of them. The answer says what had to change for it. CF_KIND_CELL:
+ * one byte, in this row and this column. CF_KIND_COLUMN or CF_KIND_ROW: two bytes or more, which all stand on this line. Refused 1, 2, 3,
+ * or 5 where no line can be put right so that the tile is good.
  *
  * A repaired tile is always good. If more than one line was hurt it may be another good tile than the one that was printed, and no reader
  * could tell: if you know the lines, use cf_fill.

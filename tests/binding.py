@@ -39,6 +39,13 @@ def walk():
     return listed, None
 
 
+def repaired(*ones):
+    """What repair says of a tile of zeros with some ones, of which it makes zeros."""
+    tile = bytearray(int(k in ones) for k in range(16))
+    said = library.repair(5, 2, tile)
+    return said if tile == bytes(16) else tile
+
+
 HEADER = (Path(sys.argv[2]).parent.parent / "include" / "counterfrost.h").read_text()
 
 zeros = bytearray(16)
@@ -58,7 +65,8 @@ checks = {
     "an empty sheet": (library.correct(5, 2, zeros, b""), 0),
     "not good": (refusal(library.read, 5, 2, b"\x01" + bytes(15)), (5, 0)),
     "worked tile 1": (library.write(5, 2, bytes([1] + [0] * 7)).hex(), "01000001000001010000010000000100"),
-    "the whole reel": (walk(), ([(7, 5, 2, None), (8, 5, 2, ("column", 3))], (7, 52))),
+    "the whole reel": (walk(), ([(7, 5, 2, None), (8, 5, 2, ("cell", 2, 3))], (7, 52))),
+    "worked tiles 4 to 6": ([repaired(11), repaired(0, 4), repaired(0, 1)], [("cell", 2, 3), ("column", 0), ("row", 0)]),
     "the empty reel": (list(library.tiles(b"")), []),
 }
 wrong = {name: got for name, (got, asked) in checks.items() if got != asked}

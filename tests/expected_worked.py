@@ -1,6 +1,6 @@
 """What the program `worked` has to print for its script, crates/worked/stdin. It is worked out from the rules of SPEC, never from the
-program. And what SPEC 10 says of its tiles and its reel, and the paper of its examples, is held against it: the script must ask it, and the
-rules must give the answer that is said; only then is the text printed."""
+program. And what SPEC 10 says of its tiles and its reel, and the paper of its examples, and what is known of tiles that were hurt here, is
+held against it: the script must ask it, and the rules must give the answer that is said; only then is the text printed."""
 
 import sys
 
@@ -8,7 +8,7 @@ sys.dont_write_bytecode = True  # leave no files beside the sources
 
 from pathlib import Path  # noqa: E402
 
-from expected import paper, tiles  # noqa: E402
+from expected import edge, paper, tiles  # noqa: E402
 from expected.reel import WHOLE_PLACES, WHOLE_REEL  # noqa: E402
 from expected.script import run  # noqa: E402
 
@@ -28,6 +28,7 @@ def says(name, p, l, held, lent, answer=None, left=None, lines=(), begins=""):
 
 
 tiles.hold(says)
+edge.hold(says)
 paper.hold(says)
 for at, stands in WHOLE_PLACES.items():
     says("place", at, 0, list(WHOLE_REEL), [], left=list(WHOLE_REEL), begins=stands)

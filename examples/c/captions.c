@@ -1,7 +1,7 @@
 /*
  * The life of one tile: a caption is written, a splice takes a row and a scratch a column, both are filled in; then a second
  * scratch goes through the very letter that has to be corrected, the letter is corrected all the same, the scratch is repaired,
- * and the caption is read.
+ * and so is a single byte that a grain of dust has changed; and the caption is read.
  */
 #include "counterfrost.h"
 
@@ -31,7 +31,7 @@ static void lay_caption(uint8_t text[TEXT])
     memcpy(text, CAPTION, strlen(CAPTION));
 }
 
-/* What a splice does to a row, and a scratch to a column. */
+/* What a splice does to a row, a scratch to a column, and a grain of dust to a cell. */
 static void splice(uint8_t tile[TILE], size_t row)
 {
     for (size_t column = 0; column < COLUMNS; column++) {
@@ -46,10 +46,35 @@ static void scratch(uint8_t tile[TILE], size_t column)
     }
 }
 
+static void dust(uint8_t tile[TILE], size_t row, size_t column)
+{
+    tile[row * COLUMNS + column] ^= 0x20;
+}
+
+/* Repairs the tile, and says what was hurt. */
+static void repair(size_t slope, uint8_t tile[TILE])
+{
+    uint64_t answer = accepted("cf_repair", cf_repair(SIZE, slope, tile, TILE));
+    switch (cf_kind(answer)) {
+    case CF_KIND_COLUMN:
+        printf("repaired: column %u\n", cf_first(answer));
+        break;
+    case CF_KIND_ROW:
+        printf("repaired: row %u\n", cf_first(answer));
+        break;
+    case CF_KIND_CELL:
+        printf("repaired: cell %u %u\n", cf_first(answer), cf_second(answer));
+        break;
+    case CF_KIND_DONE:
+        printf("not hurt\n");
+        break;
+    }
+}
+
 int main(void)
 {
     uint8_t text[TEXT], tile[TILE], sheet[8];
-    uint64_t answer, records;
+    uint64_t records;
     size_t wrong_letter = (size_t)(strstr(CAPTION, "noom") + 3 - CAPTION);
     size_t slope = cf_first(accepted("cf_house_slope", cf_house_slope(SIZE)));
 
@@ -67,8 +92,10 @@ int main(void)
     accepted("cf_correct", cf_correct(SIZE, slope, tile, TILE, sheet, sizeof sheet, &records));
     printf("corrected: %u letter\n", (unsigned)records);
 
-    answer = accepted("cf_repair", cf_repair(SIZE, slope, tile, TILE));
-    printf("repaired: %s %u\n", cf_kind(answer) == CF_KIND_COLUMN ? "column" : "row", cf_first(answer));
+    repair(slope, tile);
+
+    dust(tile, 5, 12);
+    repair(slope, tile);
 
     accepted("cf_read", cf_read(SIZE, slope, tile, TILE, text, TEXT));
     printf("read:\n%.*s\n", (int)strlen(CAPTION), (const char *)text);

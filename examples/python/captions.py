@@ -27,6 +27,20 @@ def splice(tile, at):
     tile[at * COLUMNS : (at + 1) * COLUMNS] = bytes(COLUMNS)
 
 
+def dust(tile, i, j):
+    """What a grain of dust does to a cell."""
+    tile[i * COLUMNS + j] ^= 0x20
+
+
+def repair(library, slope, tile):
+    """Repairs the tile, and says what was hurt."""
+    hurt = library.repair(SIZE, slope, tile)
+    if hurt:
+        print("repaired:", *hurt)
+    else:
+        print("not hurt")
+
+
 def main():
     library = Counterfrost(*sys.argv[1:])
     slope = library.house_slope(SIZE)
@@ -44,7 +58,11 @@ def main():
     sheet = correction(*divmod(wrong_letter, TEXT_COLUMNS), ord("m"), ord("n"))
     print(f"corrected: {library.correct(SIZE, slope, tile, sheet)} letter")
 
-    print("repaired: {} {}".format(*library.repair(SIZE, slope, tile)))
+    repair(library, slope, tile)
+
+    dust(tile, 5, 12)
+    repair(library, slope, tile)
+
     print("read:", library.read(SIZE, slope, tile)[: len(CAPTION)].decode(), sep="\n")
 
 

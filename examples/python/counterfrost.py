@@ -7,9 +7,7 @@ import ctypes
 import platform
 from ctypes import byref, c_size_t, c_uint8, c_uint64
 
-NAMED_AS = "libcounterfrost.so.0.2"  # the calls below are those of this version
-
-KINDS = {1: "column", 2: "row"}
+NAMED_AS = "libcounterfrost.so.0.3"  # the calls below are those of this version
 
 WORDS = {
     1: "the size is not one of the primes between 5 and 257",
@@ -63,14 +61,14 @@ class Counterfrost:
         self._calls = ctypes.CDLL(path)
 
     def _ask(self, name, *arguments):
-        """Makes a call and gives its kind and first number."""
+        """Makes a call and gives its kind and its two numbers."""
         call = getattr(self._calls, name)
         call.restype = c_uint64
         word = call(*arguments)
-        kind, first = word >> 32, word >> 16 & 0xFFFF
+        kind, first, second = word >> 32, word >> 16 & 0xFFFF, word & 0xFFFF
         if kind == 4:
             raise Refused(first)
-        return kind, first
+        return kind, first, second
 
     def version(self):
         """Major, minor and patch."""
@@ -101,9 +99,10 @@ class Counterfrost:
         return bytes(text)
 
     def repair(self, p, l, tile):
-        """Puts one hurt column or row right, in place, and names it: ("column", 3). None where nothing was hurt."""
-        kind, first = self._ask("cf_repair", _number(p), _number(l), *_lent(tile))
-        return (KINDS[kind], first) if kind in KINDS else None
+        """Puts one hurt column or row right, in place, and names what was hurt: ("cell", 2, 3), by row and column, where it was one byte;
+        ("column", 3) or ("row", 1) where it was more; None where it was nothing."""
+        kind, first, second = self._ask("cf_repair", _number(p), _number(l), *_lent(tile))
+        return {0: None, 1: ("column", first), 2: ("row", first), 3: ("cell", first, second)}[kind]
 
     def fill(self, p, l, tile, first, second):
         """Fills one or two lost lines, in place; one line is named twice."""
@@ -124,7 +123,7 @@ class Counterfrost:
         while True:
             number, p, l, offset = c_uint64(), c_uint64(), c_uint64(), c_uint64()
             try:
-                kind, _ = self._ask(
+                kind, *_ = self._ask(
                     "cf_next", *_read_only(reel), _number(at), byref(number), byref(p), byref(l), byref(offset)
                 )
             except Refused as no:

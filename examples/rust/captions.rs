@@ -1,7 +1,7 @@
 //! The life of one tile, as examples/c/captions.c tells it, from Rust.
 mod counterfrost;
 
-use counterfrost::{Line, Refused};
+use counterfrost::{Hurt, Line, Refused};
 
 /// A tile of size 17: 16 rows of 16 bytes, of which 14 are text.
 const SIZE: usize = 17;
@@ -16,6 +16,22 @@ fn scratch(tile: &mut [u8], column: usize) {
     for row in 0..ROWS {
         tile[row * COLUMNS + column] ^= 0x55 + row as u8;
     }
+}
+
+/// What a grain of dust does to a cell.
+fn dust(tile: &mut [u8], row: usize, column: usize) {
+    tile[row * COLUMNS + column] ^= 0x20;
+}
+
+/// Repairs the tile, and says what was hurt.
+fn repair(slope: usize, tile: &mut [u8]) -> Result<(), Refused> {
+    match counterfrost::repair(SIZE, slope, tile)? {
+        Some(Hurt::Line(Line::Column(column))) => println!("repaired: column {column}"),
+        Some(Hurt::Line(Line::Row(row))) => println!("repaired: row {row}"),
+        Some(Hurt::Cell { row, column }) => println!("repaired: cell {row} {column}"),
+        None => println!("not hurt"),
+    }
+    Ok(())
 }
 
 fn main() -> Result<(), Refused> {
@@ -38,11 +54,10 @@ fn main() -> Result<(), Refused> {
     let records = counterfrost::correct(SIZE, slope, &mut tile, &record)?;
     println!("corrected: {records} letter");
 
-    match counterfrost::repair(SIZE, slope, &mut tile)? {
-        Some(Line::Column(column)) => println!("repaired: column {column}"),
-        Some(Line::Row(row)) => println!("repaired: row {row}"),
-        None => println!("clean"),
-    }
+    repair(slope, &mut tile)?;
+
+    dust(&mut tile, 5, 12);
+    repair(slope, &mut tile)?;
 
     counterfrost::read(SIZE, slope, &tile, &mut text)?;
     println!("read:\n{}", String::from_utf8_lossy(&text[..CAPTION.len()]));

@@ -30,6 +30,13 @@ pub enum Line {
     Column(u8),
 }
 
+/// What a repair has put right: one byte, or two bytes or more, all of one line.
+#[derive(Clone, Copy, Debug, PartialEq, Eq)]
+pub enum Hurt {
+    Cell { row: u8, column: u8 },
+    Line(Line),
+}
+
 /// A tile on a reel: its number, size and slope, and the offset where its bytes begin.
 #[derive(Debug, PartialEq, Eq)]
 pub struct Tile {
@@ -39,13 +46,13 @@ pub struct Tile {
     pub offset: u64,
 }
 
-/// The kind and the first number of an answer that is no refusal.
-fn taken(answer: u64, offset: u64) -> Result<(u64, u16), Refused> {
-    let (kind, first) = (answer >> 32, (answer >> 16 & 0xffff) as u16);
+/// The kind and the two numbers of an answer that is no refusal.
+fn taken(answer: u64, offset: u64) -> Result<(u64, u16, u16), Refused> {
+    let (kind, first, second) = (answer >> 32, (answer >> 16) as u16, answer as u16);
     if kind == 4 {
         Err(Refused { number: first, offset })
     } else {
-        Ok((kind, first))
+        Ok((kind, first, second))
     }
 }
 
@@ -63,7 +70,7 @@ pub fn version() -> u64 {
 
 /// The house slope of the size p.
 pub fn house_slope(p: usize) -> Result<usize, Refused> {
-    taken(unsafe { c::cf_house_slope(p) }, 0).map(|(_, slope)| usize::from(slope))
+    taken(unsafe { c::cf_house_slope(p) }, 0).map(|(_, slope, _)| usize::from(slope))
 }
 
 /// Whether p is a size and l a slope that can be used there, and if not, why.
@@ -81,12 +88,15 @@ pub fn read(p: usize, l: usize, tile: &[u8], text: &mut [u8]) -> Result<(), Refu
     taken(unsafe { c::cf_read(p, l, tile.as_ptr(), tile.len(), text.as_mut_ptr(), text.len()) }, 0).map(|_| ())
 }
 
-/// Repairs one hurt column, or one hurt row, and names it; nothing where the tile is good.
-pub fn repair(p: usize, l: usize, tile: &mut [u8]) -> Result<Option<Line>, Refused> {
-    taken(unsafe { c::cf_repair(p, l, tile.as_mut_ptr(), tile.len()) }, 0).map(|(kind, first)| match kind {
-        1 => Some(Line::Column(first as u8)),
-        2 => Some(Line::Row(first as u8)),
-        _ => None,
+/// Repairs one hurt column, or one hurt row, and names what was hurt; nothing where the tile is good.
+pub fn repair(p: usize, l: usize, tile: &mut [u8]) -> Result<Option<Hurt>, Refused> {
+    let answer = unsafe { c::cf_repair(p, l, tile.as_mut_ptr(), tile.len()) };
+    taken(answer, 0).map(|(kind, first, second)| match kind {
+        0 => None,
+        1 => Some(Hurt::Line(Line::Column(first as u8))),
+        2 => Some(Hurt::Line(Line::Row(first as u8))),
+        3 => Some(Hurt::Cell { row: first as u8, column: second as u8 }),
+        _ => unreachable!("cf_repair does not answer kind {kind}"),
     })
 }
 
@@ -106,5 +116,5 @@ pub fn correct(p: usize, l: usize, tile: &mut [u8], sheet: &[u8]) -> Result<u64,
 pub fn next(reel: &[u8], at: usize) -> Result<Option<Tile>, Refused> {
     let (mut number, mut p, mut l, mut offset) = (0, 0, 0, 0);
     let answer = unsafe { c::cf_next(reel.as_ptr(), reel.len(), at, &mut number, &mut p, &mut l, &mut offset) };
-    taken(answer, offset).map(|(kind, _)| (kind == 0).then_some(Tile { number, p, l, offset }))
+    taken(answer, offset).map(|(kind, ..)| (kind == 0).then_some(Tile { number, p, l, offset }))
 }

@@ -71,7 +71,7 @@ def worked(n):
 # Tile number, p, l, what was done, and what repair must answer.
 TILES = (
     (1, 5, 2, nothing(), "clean"),
-    (2, 5, 3, cells(0xFF, (1, 2)), "column 2"),
+    (2, 5, 3, cells(0xFF, (1, 2)), "cell 1 2"),
     (3, 7, 3, lines(0x00, ("column", 4)), "column 4"),
     (4, 7, 5, lines(0xFF, ("row", 2)), "row 2"),
     (5, 11, 2, nothing(), "clean"),
@@ -79,7 +79,7 @@ TILES = (
     (5, 11, 2, cells(0x20, (6, 0), (6, 7)), "row 6"),
     (6, 13, 6, lines(0x00, ("column", 2), ("column", 7)), "refused 5"),
     (0, 17, 3, lines(0xFF, ("row", 0)), "row 0"),
-    (4294967295, 19, 2, cells(0x01, (17, 17)), "column 17"),
+    (4294967295, 19, 2, cells(0x01, (17, 17)), "cell 17 17"),
     (7, 23, 10, nothing(), "clean"),
     (8, 5, 2, *worked(8)),
     (9, 5, 2, cells(0x20, (0, 0), (1, 1)), "column 3"),

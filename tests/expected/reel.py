@@ -66,7 +66,7 @@ WHOLE_REEL = (
 )
 WHOLE_LISTING = """\
 7 5 2 clean
-8 5 2 column 3
+8 5 2 cell 2 3
 stopped 7 52
 """
 assert len(WHOLE_REEL) == 53 and listing(WHOLE_REEL) == WHOLE_LISTING

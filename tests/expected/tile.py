@@ -4,7 +4,7 @@ A tile is the list of its bytes, row by row (SPEC 3.1). That all 2p sums are one
 XOR, bit by bit, and so the equations are over GF(2). The unknowns are the bytes of the flagged cells, which are those on the lines to
 fill, and the one byte that all sums are. Gaussian elimination solves them (SPEC 5.5). It tells whether there is a filling; and that the
 unknowns are settled, so that there is but one (SPEC 4.5), is asserted each time. Writing is filling the two check columns, and repair
-is filling one line after another.
+is filling one line after another, and then counting the bytes that came out otherwise.
 
 A line of a slope is a diagonal (SPEC 4.1). Any other line is a row or a column: a pair, ("row", r) or ("column", c). An answer is the
 text that the program prints for it."""
@@ -173,8 +173,18 @@ def read(p, l, tile, text):
     return ("done", text_of(p, tile)) if is_good(p, l, tile) else ("refused 5", text)
 
 
+def difference(p, lent, good):
+    """SPEC 5.3, step 3: the name of the difference between two tiles that agree outside a line: a cell, or the line of several."""
+    cells = [divmod(k, p - 1) for k in range(tile_length(p)) if lent[k] != good[k]]
+    (row, *other_rows), (column, *other_columns) = (set(numbers) for numbers in zip(*cells))
+    if len(cells) == 1:
+        return f"cell {row} {column}"
+    assert not other_rows or not other_columns, f"{cells} are on no line"
+    return f"row {row}" if other_columns else f"column {column}"
+
+
 def repair(p, l, tile):
-    """SPEC 5.3: the answer, and the tile afterwards, by trying every column and then every row."""
+    """SPEC 5.3: the answer, and the tile afterwards, by trying every column and then every row, up to the first that has a filling."""
     no = refusal(p, l, lambda: len(tile) == tile_length(p))
     if no:
         return no, tile
@@ -185,7 +195,7 @@ def repair(p, l, tile):
         for n in range(p - 1):
             repaired = filling_of_sums(p, l, tile, totals, ((kind, n),))
             if repaired is not None:
-                return f"{kind} {n}", repaired
+                return difference(p, tile, repaired), repaired
     return "refused 5", tile
 
 

@@ -14,7 +14,7 @@ WRITTEN = {
 }
 # Where the tile to repair has 1, the answer, and where the tile has 1 afterwards.
 REPAIRED = {
-    4: ([(2, 3)], "column 3", []),
+    4: ([(2, 3)], "cell 2 3", []),
     5: ([(0, 0), (1, 0)], "column 0", []),
     6: ([(0, 0), (0, 1)], "row 0", []),
     7: ([(0, 0), (1, 2)], "refused 5", [(0, 0), (1, 2)]),
@@ -75,7 +75,7 @@ def hold_corrected(says):
     tile, hurt = parsed(WRITTEN[1][1]), ones([(2, 3)])
     corrected = [a ^ b for a, b in zip(tile, hurt, strict=True)]
     says("correct", P, L, hurt, record(0, 0, 0, 1), "records 1", corrected)
-    says("mend", P, L, corrected, [], "column 3", tile)
+    says("mend", P, L, corrected, [], "cell 2 3", tile)
 
 
 def hold_edges(says):

@@ -28,6 +28,15 @@ static void take_words_apart(void)
     }
 }
 
+/* A cell is answered with its row first and its column second (SPEC 11.1). */
+static void take_a_cell_apart(void)
+{
+    uint8_t tile[16] = {[1 * 4 + 2] = 0x41};
+    uint64_t said = ask_repair(5, 2, tile, 16);
+    hold(cf_kind(said) == CF_KIND_CELL && cf_first(said) == 1 && cf_second(said) == 2, "cell (1, 2) is taken apart");
+    hold(cf_refusal(said) == 0, "a cell is no refusal");
+}
+
 /* Kinds have the numbers of SPEC 11.1, and refusals those of SPEC 9.1. */
 static void know_the_numbers(void)
 {
@@ -124,6 +133,7 @@ static void lay_far_corrections(void)
 void cases_header(void)
 {
     take_words_apart();
+    take_a_cell_apart();
     know_the_numbers();
     name_lines();
     know_the_lengths();

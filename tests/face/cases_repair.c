@@ -1,4 +1,5 @@
-/* Repair (SPEC 5.3): lines and cells hurt in each way, damage that no line explains, and at the smallest size every tile of bits. */
+/* Repair (SPEC 5.3): lines and cells hurt in each way, damage that no line explains, and at the smallest size every tile of bits. Then the
+ * edge between a cell and a line: one hurt byte, two, and more, where the answer is known beforehand, and both sides are held to it. */
 
 #include <stddef.h>
 #include <stdint.h>
@@ -6,10 +7,41 @@
 
 #include "ask.h"
 #include "cases.h"
+#include "counterfrost.h"
+#include "differences.h"
 #include "made.h"
 
 static struct chance chance;
 static uint8_t good[LARGEST_TILE], tile[LARGEST_TILE], text[LARGEST_TEXT];
+
+/* Damage to a good tile: how many cells of a line are changed, and the place of one of them. Nothing else is. */
+struct damage {
+    size_t line, count, place;
+};
+
+/* What has to be answered (SPEC 5.3, step 3): the cell, where one is changed, and otherwise the line. SPEC 11.1 for the word. */
+static uint64_t name_of(size_t p, struct damage damage)
+{
+    if (damage.count == 1)
+        return ((uint64_t)CF_KIND_CELL << 32) + ((uint64_t)(damage.place / (p - 1)) << 16) + damage.place % (p - 1);
+    if (damage.line < 0x8000)
+        return ((uint64_t)CF_KIND_ROW << 32) + ((uint64_t)damage.line << 16);
+    return ((uint64_t)CF_KIND_COLUMN << 32) + ((uint64_t)(damage.line - 0x8000) << 16);
+}
+
+/* Holds an answer to the damage, and the tile to the good one. */
+static void hold_repaired(size_t p, size_t l, struct damage damage, uint64_t said)
+{
+    hold(said == name_of(p, damage) && memcmp(tile, good, tile_length(p)) == 0,
+         "p %zu, l %zu: %zu cells of line %zx hex were hurt, one of them byte %zu, and this is repaired otherwise, word %llx", p, l,
+         damage.count, damage.line, damage.place, (unsigned long long)said);
+}
+
+/* Repairs a tile of which the damage is known. */
+static void repair_known(size_t p, size_t l, struct damage damage)
+{
+    hold_repaired(p, l, damage, ask_repair(p, l, tile, tile_length(p)));
+}
 
 /* Repairs the tile, and reads what has become of it. */
 static void repair_and_read(size_t p, size_t l)
@@ -54,13 +86,15 @@ static void some_lines(size_t p, size_t l)
         one_line_hurt(p, l, lines[k], (enum hurt)chance_below(&chance, HURTS));
 }
 
-/* A hurt cell: the tile is not read, its column is put right, and then it is. */
+/* A hurt cell: the tile is not read, the cell is put right, and then it is. */
 static void one_cell_hurt(size_t p, size_t l, size_t cell)
 {
+    struct damage damage = {row_name(cell / (p - 1)), 1, cell};
     memcpy(tile, good, tile_length(p));
     tile[cell] ^= chance_change(&chance);
     ask_read(p, l, tile, tile_length(p), text, text_length(p));
-    repair_and_read(p, l);
+    repair_known(p, l, damage);
+    ask_read(p, l, tile, tile_length(p), text, text_length(p));
 }
 
 static void each_cell_in_turn(size_t p, size_t l)
@@ -131,21 +165,34 @@ static void a_little_more_than_a_line(size_t p, size_t l)
     ask_repair(p, l, tile, tile_length(p));
 }
 
+/* Two cells of a good tile are changed. Those of one line are put right. Those of two lines may look like a hurt line, but never like a
+ * hurt cell: this good tile and the one that is found would differ in three cells at most, and no two good tiles do. (Take a bit of their
+ * difference. An odd number of ones would have one on each of the p diagonals of slope 1; two would share a diagonal of each slope.) */
+static void two_cells_hurt(size_t p, size_t l, size_t first, size_t second, uint8_t first_change, uint8_t second_change)
+{
+    size_t row = first / (p - 1), column = first % (p - 1);
+    struct damage in_row = {row_name(row), 2, first}, in_column = {column_name(column), 2, first};
+    memcpy(tile, good, tile_length(p));
+    tile[first] ^= first_change;
+    tile[second] ^= second_change;
+    if (second / (p - 1) == row)
+        repair_known(p, l, in_row);
+    else if (second % (p - 1) == column)
+        repair_known(p, l, in_column);
+    else
+        hold(cf_kind(ask_repair(p, l, tile, tile_length(p))) != CF_KIND_CELL, "bytes %zu and %zu were hurt, and the peer says a cell",
+             first, second);
+}
+
 /* Each two cells of a good tile, changed by the same byte and by two. */
 static void each_two_cells(size_t p, size_t l)
 {
     make_tile(&chance, p, l, good);
     for (size_t first = 0; first < tile_length(p); first++) {
         for (size_t second = 0; second < first; second++) {
-            uint8_t change = chance_change(&chance);
-            memcpy(tile, good, tile_length(p));
-            tile[first] ^= change;
-            tile[second] ^= change;
-            ask_repair(p, l, tile, tile_length(p));
-            memcpy(tile, good, tile_length(p));
-            tile[first] ^= chance_change(&chance);
-            tile[second] ^= chance_change(&chance);
-            ask_repair(p, l, tile, tile_length(p));
+            uint8_t change = chance_change(&chance), first_change = chance_change(&chance), second_change = chance_change(&chance);
+            two_cells_hurt(p, l, first, second, change, change);
+            two_cells_hurt(p, l, first, second, first_change, second_change);
         }
     }
 }
@@ -158,6 +205,161 @@ static void every_tile_of_bits(size_t l)
         for (unsigned k = 0; k < 16; k++)
             tile[k] = bits >> k & 1 ? byte : 0;
         ask_repair(5, l, tile, 16);
+    }
+}
+
+/* Of a line, its n-th cell is changed. */
+static void one_of_line(size_t p, size_t l, size_t line, size_t n)
+{
+    struct damage damage = {line, 1, place_on_line(p, line, n)};
+    memcpy(tile, good, tile_length(p));
+    tile[damage.place] ^= chance_change(&chance);
+    repair_known(p, l, damage);
+}
+
+/* Of a line, two cells are changed: alike, so that the XOR of the whole line is what it was, and by any two bytes. */
+static void two_of_line(size_t p, size_t l, size_t line, size_t first, size_t second)
+{
+    size_t one = place_on_line(p, line, first), other = place_on_line(p, line, second);
+    uint8_t change = chance_change(&chance), other_change = chance_change(&chance);
+    two_cells_hurt(p, l, one, other, change, change);
+    two_cells_hurt(p, l, one, other, change, other_change);
+}
+
+/* One cell of a line, and two: at its ends and within. In a row the last two stand in the check columns. */
+static void one_and_two_of_line(size_t p, size_t l, size_t line)
+{
+    size_t within = 1 + chance_below(&chance, p - 3);
+    one_of_line(p, l, line, 0);
+    one_of_line(p, l, line, within);
+    one_of_line(p, l, line, p - 3);
+    one_of_line(p, l, line, p - 2);
+    two_of_line(p, l, line, 0, 1);
+    two_of_line(p, l, line, 0, p - 2);
+    two_of_line(p, l, line, within, p - 2);
+    two_of_line(p, l, line, p - 3, p - 2);
+}
+
+/* A scratch makes a whole line read one byte. The good tile had that byte there already, in all cells but so many: only these are hurt.
+ * Such a tile is had by laying the line, and filling two others of its kind (SPEC 5.4). */
+static void scratched_line(size_t p, size_t l, size_t line, size_t count)
+{
+    struct damage damage = {line, count, 0};
+    uint8_t byte = (uint8_t)chance_below(&chance, 256);
+    size_t first_of_kind = line < 0x8000 ? row_name(0) : column_name(0), number = line - first_of_kind;
+    make_garbage(&chance, p, good, GARBAGE_OF_BYTES);
+    for (size_t n = 0; n < p - 1; n++)
+        good[place_on_line(p, line, n)] = byte;
+    damage.place = hurt_some_of_line(&chance, p, good, line, count, 0);
+    ask_fill(p, l, good, tile_length(p), first_of_kind + (number + 1) % (p - 1), first_of_kind + (number + 2) % (p - 1));
+    memcpy(tile, good, tile_length(p));
+    for (size_t n = 0; n < p - 1; n++)
+        tile[place_on_line(p, line, n)] = byte;
+    repair_known(p, l, damage);
+}
+
+static void edge_at_line(size_t p, size_t l, size_t line)
+{
+    make_tile(&chance, p, l, good);
+    one_and_two_of_line(p, l, line);
+    scratched_line(p, l, line, 1);
+    scratched_line(p, l, line, 2);
+}
+
+static void edge_at_each_line(size_t p, size_t l)
+{
+    for (size_t n = 0; n < 2 * (p - 1); n++)
+        edge_at_line(p, l, nth_line(p, n));
+}
+
+/* The lines that are chosen where each would be too many: the check columns, the last row, and any. */
+enum { CHOSEN = 4 };
+
+static size_t chosen_line(size_t p, size_t n)
+{
+    const size_t lines[CHOSEN] = {column_name(p - 3), column_name(p - 2), row_name(p - 2), some_line(&chance, p)};
+    return lines[n];
+}
+
+static void edge_at_chosen_lines(size_t p, size_t l)
+{
+    for (size_t n = 0; n < CHOSEN; n++)
+        edge_at_line(p, l, chosen_line(p, n));
+}
+
+/* Two cells of two lines, on one diagonal of a slope (SPEC 4.1): changed alike, they leave all sums of that slope as they were. */
+static void two_on_a_diagonal(size_t p, size_t l, size_t slope)
+{
+    size_t row = chance_below(&chance, p - 1), column = chance_below(&chance, p - 1), other_row, other_column;
+    uint8_t change = chance_change(&chance);
+    do {
+        other_column = (column + 1 + chance_below(&chance, p - 2)) % (p - 1);
+        other_row = (row + slope * column + (p - slope) * other_column) % p;
+    } while (other_row == p - 1);
+    two_cells_hurt(p, l, row * (p - 1) + column, other_row * (p - 1) + other_column, change, change);
+}
+
+static void some_on_diagonals(size_t p, size_t l)
+{
+    make_tile(&chance, p, l, good);
+    for (int round = 0; round < 4; round++) {
+        two_on_a_diagonal(p, l, 1);
+        two_on_a_diagonal(p, l, l);
+    }
+}
+
+/* Whether all the sums are one byte: SPEC 4.3, taken at its word. */
+static int has_one_sum(size_t p, size_t l)
+{
+    uint8_t sums[2][LARGEST_SIZE] = {{0}};
+    for (size_t row = 0; row < p - 1; row++) {
+        for (size_t column = 0; column < p - 1; column++) {
+            sums[0][(row + column) % p] ^= good[row * (p - 1) + column];
+            sums[1][(row + l * column) % p] ^= good[row * (p - 1) + column];
+        }
+    }
+    for (size_t t = 0; t < p; t++)
+        if (sums[0][t] != sums[0][0] || sums[1][t] != sums[0][0])
+            return 0;
+    return 1;
+}
+
+/* From here on the peer is not asked. The library writes a tile, which is seen to be good by its sums. */
+static void write_alone(size_t p, size_t l, enum text_kind kind)
+{
+    make_text(&chance, p, kind, text);
+    cf_write(p, l, text, text_length(p), good, tile_length(p));
+    hold(has_one_sum(p, l), "the tile that was written is not good, p %zu, l %zu", p, l);
+}
+
+/* So many cells of a line are changed, and the library repairs them: what it has to say, and to leave, is known. */
+static void repair_alone(size_t p, size_t l, size_t line, size_t count)
+{
+    struct damage damage = {line, count, 0};
+    memcpy(tile, good, tile_length(p));
+    damage.place = hurt_some_of_line(&chance, p, tile, line, count, (int)chance_below(&chance, 2));
+    count_call();
+    hold_repaired(p, l, damage, cf_repair(p, l, tile, tile_length(p)));
+}
+
+/* Each number of cells in each line. */
+static void each_count_in_each_line(size_t p, size_t l)
+{
+    for (size_t n = 0; n < 2 * (p - 1); n++) {
+        write_alone(p, l, (enum text_kind)(n % TEXT_KINDS));
+        for (size_t count = 1; count < p; count++)
+            repair_alone(p, l, nth_line(p, n), count);
+    }
+}
+
+/* One cell, two, and all. */
+static void some_counts_in_chosen_lines(size_t p, size_t l)
+{
+    write_alone(p, l, TEXT_OF_ANY);
+    for (size_t n = 0; n < CHOSEN; n++) {
+        repair_alone(p, l, chosen_line(p, n), 1);
+        repair_alone(p, l, chosen_line(p, n), 2);
+        repair_alone(p, l, chosen_line(p, n), p - 1);
     }
 }
 
@@ -175,4 +377,15 @@ void cases_repair(void)
     for (size_t p = size_above(0); p != 0; p = size_above(p))
         middle_lines_and_cells(p, house_slope(p));
     for_all_sizes(&chance, a_little_more_than_a_line);
+    for_small_sizes(11, edge_at_each_line);
+    for_small_sizes(SMALL_SIZE, edge_at_chosen_lines);
+    for_small_sizes(SMALL_SIZE, some_on_diagonals);
+    for_small_sizes(13, each_count_in_each_line);
+    for (size_t p = size_above(13); p <= SMALL_SIZE; p = size_above(p))
+        each_count_in_each_line(p, house_slope(p));
+    for (size_t p = size_above(SMALL_SIZE); p != 0; p = size_above(p)) {
+        edge_at_line(p, house_slope(p), chosen_line(p, chance_below(&chance, CHOSEN)));
+        some_counts_in_chosen_lines(p, some_slope(&chance, p));
+    }
+    edge_at_chosen_lines(LARGEST_SIZE, some_slope(&chance, LARGEST_SIZE));
 }

@@ -123,19 +123,23 @@ static uint8_t make_run(const struct run *run, size_t p, size_t row, size_t colu
     return corrected;
 }
 
-/* Each run over a good tile, and over tiles with a hurt line: the place's own column and row, another column of the text, and each
- * check column. */
+/* Each run over a good tile; over tiles with a hurt line, which is the place's own column or row, another column of the text, or a check
+ * column; and over tiles with one hurt cell, which is the place itself, or one of the last check column. */
 static void runs_for_one_place(size_t p, size_t l)
 {
     size_t row = chance_below(&chance, p - 1), column = chance_below(&chance, p - 3);
     const size_t hurt[] = {column_name(column), column_name((column + 1) % (p - 3)), column_name(p - 3), column_name(p - 2), row_name(row)};
-    enum { HURT_LINES = sizeof hurt / sizeof hurt[0] };
+    enum { HURT_LINES = sizeof hurt / sizeof hurt[0], HURT_PLACE = HURT_LINES, HURT_CHECK, NOT_HURT };
     for (size_t k = 0; k < sizeof runs / sizeof runs[0]; k++) {
-        for (size_t n = 0; n <= HURT_LINES; n++) {
+        for (size_t n = 0; n <= NOT_HURT; n++) {
             make_state(p, l, GOOD);
             uint8_t corrected = make_run(&runs[k], p, row, column, tile[row * (p - 1) + column]);
             if (n < HURT_LINES)
                 hurt_line(&chance, p, tile, hurt[n], HURT_ANY);
+            else if (n == HURT_PLACE)
+                tile[row * (p - 1) + column] ^= chance_change(&chance);
+            else if (n == HURT_CHECK)
+                hurt_line(&chance, p, tile, column_name(p - 2), HURT_ONE);
             repair_without_and_with(p, l);
             hold(text[row * (p - 3) + column] == corrected, "the peer's text does not hold the correction, p %zu, l %zu", p, l);
         }

@@ -12,9 +12,15 @@
 
 enum { TILE = 16, TEXT = 8 };
 
+/* An answer whose second number is 0, and a cell, which has two numbers. */
 static uint64_t answer(unsigned kind, unsigned first)
 {
     return ((uint64_t)kind << 32) + ((uint64_t)first << 16);
+}
+
+static uint64_t cell(unsigned row, unsigned column)
+{
+    return answer(CF_KIND_CELL, row) + column;
 }
 
 static void hold_tile(unsigned number, uint64_t said, uint64_t asked, const uint8_t *made, const uint8_t *tile)
@@ -45,21 +51,22 @@ static void written(void)
 /* Tiles 4 to 8: the ones of a tile of zeros, and what repair makes of it. */
 static void repaired(void)
 {
-    static const struct {
-        unsigned number, kind, first;
+    const struct {
+        unsigned number;
+        uint64_t answer;
         uint8_t before[TILE], after[TILE];
     } tiles[] = {
-        {4, CF_KIND_COLUMN, 3, {[11] = 1}, {0}},
-        {5, CF_KIND_COLUMN, 0, {[0] = 1, [4] = 1}, {0}},
-        {6, CF_KIND_ROW, 0, {[0] = 1, [1] = 1}, {0}},
-        {7, CF_KIND_REFUSED, CF_DAMAGED, {[0] = 1, [6] = 1}, {[0] = 1, [6] = 1}},
-        {8, CF_KIND_COLUMN, 3, {[0] = 1, [5] = 1}, {[0] = 1, [5] = 1, [3] = 1, [7] = 1, [15] = 1}},
+        {4, cell(2, 3), {[11] = 1}, {0}},
+        {5, answer(CF_KIND_COLUMN, 0), {[0] = 1, [4] = 1}, {0}},
+        {6, answer(CF_KIND_ROW, 0), {[0] = 1, [1] = 1}, {0}},
+        {7, answer(CF_KIND_REFUSED, CF_DAMAGED), {[0] = 1, [6] = 1}, {[0] = 1, [6] = 1}},
+        {8, answer(CF_KIND_COLUMN, 3), {[0] = 1, [5] = 1}, {[0] = 1, [5] = 1, [3] = 1, [7] = 1, [15] = 1}},
     };
     for (size_t k = 0; k < sizeof tiles / sizeof tiles[0]; k++) {
         uint8_t tile[TILE];
         memcpy(tile, tiles[k].before, TILE);
         uint64_t said = ask_repair(5, 2, tile, TILE);
-        hold_tile(tiles[k].number, said, answer(tiles[k].kind, tiles[k].first), tile, tiles[k].after);
+        hold_tile(tiles[k].number, said, tiles[k].answer, tile, tiles[k].after);
     }
 }
 
@@ -76,7 +83,7 @@ static void filled(void)
     hold_tile(10, said, answer(CF_KIND_REFUSED, CF_DAMAGED), tile, ten);
 }
 
-/* Tile 11: a sheet of one record makes tile 1, hurt in a cell, of tile 4, and repair answers column 3 as before. */
+/* Tile 11: a sheet of one record makes tile 1, hurt in a cell, of tile 4, and repair answers this cell as before. */
 static void corrected(void)
 {
     static const uint8_t sheet[] = {0xC3, 0x3C, 0, 0, 0, 0, 0, 1};
@@ -87,7 +94,7 @@ static void corrected(void)
     hold_tile(11, said, answer(CF_KIND_DONE, 0), tile, after);
     hold(count == 1, "worked tile 11: the peer counts %u records", (unsigned)count);
     said = ask_repair(5, 2, tile, TILE);
-    hold_tile(11, said, answer(CF_KIND_COLUMN, 3), tile, one);
+    hold_tile(11, said, cell(2, 3), tile, one);
 }
 
 /* Number 12: sizes, slopes, lengths and places on both sides of their edges. */
@@ -113,11 +120,13 @@ static void refused(void)
     }
 }
 
-/* The whole reel: two tiles and one byte more. It is asked at every offset, and far behind its end. */
+/* The whole reel: two tiles and one byte more. */
+static const uint8_t reel[53] = {[0] = 0xD5, [1] = 0x5D, [3] = 5, [5] = 2, [9] = 7, [26] = 0xD5, [27] = 0x5D,
+                                 [29] = 5,   [31] = 2,   [35] = 8, [47] = 0x41};
+
+/* It is asked at every offset, and far behind its end. */
 static void walked(void)
 {
-    static const uint8_t reel[53] = {[0] = 0xD5, [1] = 0x5D, [3] = 5, [5] = 2, [9] = 7, [26] = 0xD5, [27] = 0x5D,
-                                     [29] = 5,   [31] = 2,   [35] = 8, [47] = 0x41};
     static const struct {
         size_t at;
         unsigned kind, first;
@@ -140,6 +149,22 @@ static void walked(void)
         ask_next(reel, sizeof reel, at, &found);
     for (size_t k = 0; k < sizeof far / sizeof far[0]; k++)
         ask_next(reel, sizeof reel, far[k], &found);
+}
+
+/* The reel's two tiles, as its listing has them: clean, and cell 2 3. Both are zeros then. */
+static void reel_repaired(void)
+{
+    const struct {
+        size_t offset;
+        uint64_t answer;
+    } tiles[] = {{10, answer(CF_KIND_DONE, 0)}, {36, cell(2, 3)}};
+    static const uint8_t zeros[TILE];
+    for (size_t k = 0; k < sizeof tiles / sizeof tiles[0]; k++) {
+        uint8_t tile[TILE];
+        memcpy(tile, &reel[tiles[k].offset], TILE);
+        uint64_t said = ask_repair(5, 2, tile, TILE);
+        hold(said == tiles[k].answer && memcmp(tile, zeros, TILE) == 0, "the reel of SPEC 10: the peer says otherwise of a tile's state");
+    }
 }
 
 /* The house slopes as SPEC 2.3 lists them, and no other sizes. */
@@ -174,5 +199,6 @@ void cases_worked(void)
     corrected();
     refused();
     walked();
+    reel_repaired();
     house_slopes();
 }

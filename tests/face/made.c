@@ -134,9 +134,9 @@ size_t some_line(struct chance *chance, size_t p)
     return nth_line(p, chance_below(chance, 2 * (p - 1)));
 }
 
-static uint8_t *nth_of_line(size_t p, uint8_t *tile, size_t line, size_t n)
+size_t place_on_line(size_t p, size_t line, size_t n)
 {
-    return line < 0x8000 ? &tile[line * (p - 1) + n] : &tile[n * (p - 1) + (line - 0x8000)];
+    return line < 0x8000 ? line * (p - 1) + n : n * (p - 1) + (line - 0x8000);
 }
 
 void hurt_line(struct chance *chance, size_t p, uint8_t *tile, size_t line, enum hurt hurt)
@@ -146,10 +146,25 @@ void hurt_line(struct chance *chance, size_t p, uint8_t *tile, size_t line, enum
     for (size_t n = 0; n < p - 1; n++) {
         uint8_t any = (uint8_t)chance_below(chance, 256);
         if (n == first || hurt == HURT_ALIKE)
-            *nth_of_line(p, tile, line, n) ^= change;
+            tile[place_on_line(p, line, n)] ^= change;
         else if (hurt == HURT_ANY)
-            *nth_of_line(p, tile, line, n) ^= any;
+            tile[place_on_line(p, line, n)] ^= any;
     }
+}
+
+/* A cell is taken with the odds of those that are still to be taken among those that are left, so that any choice is as likely. */
+size_t hurt_some_of_line(struct chance *chance, size_t p, uint8_t *tile, size_t line, size_t count, int is_alike)
+{
+    uint8_t change = chance_change(chance);
+    size_t place = 0;
+    for (size_t n = 0; n < p - 1; n++) {
+        if (chance_below(chance, p - 1 - n) < count) {
+            place = place_on_line(p, line, n);
+            tile[place] ^= is_alike ? change : chance_change(chance);
+            count--;
+        }
+    }
+    return place;
 }
 
 void hurt_cells(struct chance *chance, size_t p, uint8_t *tile, size_t count)

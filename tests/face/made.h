@@ -56,10 +56,16 @@ size_t some_row(struct chance *chance, size_t p);
 size_t some_column(struct chance *chance, size_t p);
 size_t some_line(struct chance *chance, size_t p);
 
+/* Where the n-th cell of a line is, in a tile of size p. */
+size_t place_on_line(size_t p, size_t line, size_t n);
+
 /* Changes one cell of a line, every cell by the same byte, or the cells by any bytes, at least one of them. */
 enum hurt { HURT_ONE, HURT_ALIKE, HURT_ANY, HURTS };
 
 void hurt_line(struct chance *chance, size_t p, uint8_t *tile, size_t line, enum hurt hurt);
+
+/* Changes exactly so many cells of a line, any of them: all by the same byte, or each by one of its own. Gives the place of the last. */
+size_t hurt_some_of_line(struct chance *chance, size_t p, uint8_t *tile, size_t line, size_t count, int is_alike);
 
 /* Changes some cells, which need not be different ones. */
 void hurt_cells(struct chance *chance, size_t p, uint8_t *tile, size_t count);

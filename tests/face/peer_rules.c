@@ -64,39 +64,44 @@ enum refusal judge_tile(size_t p, size_t l, size_t tile_len)
 }
 
 /* SPEC 11.1, here and down to the end's word. */
-static uint64_t word(uint64_t kind, uint64_t first)
+static uint64_t word(uint64_t kind, uint64_t first, uint64_t second)
 {
-    return (kind << 32) + (first << 16);
+    return (kind << 32) + (first << 16) + second;
 }
 
 uint64_t word_done(void)
 {
-    return word(0, 0);
+    return word(0, 0, 0);
 }
 
 uint64_t word_slope(size_t slope)
 {
-    return word(0, slope);
+    return word(0, slope, 0);
 }
 
 uint64_t word_column(size_t column)
 {
-    return word(1, column);
+    return word(1, column, 0);
 }
 
 uint64_t word_row(size_t row)
 {
-    return word(2, row);
+    return word(2, row, 0);
+}
+
+uint64_t word_cell(size_t row, size_t column)
+{
+    return word(3, row, column);
 }
 
 uint64_t word_refused(enum refusal refusal)
 {
-    return word(4, refusal);
+    return word(4, refusal, 0);
 }
 
 uint64_t word_end(void)
 {
-    return word(7, 0);
+    return word(7, 0, 0);
 }
 
 /* SPEC 2.3 and 2.4: the least slope that is allowed, found by trying. Each size has one, as the table of SPEC 2.3 shows. */

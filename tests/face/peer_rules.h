@@ -29,11 +29,12 @@ enum refusal judge_slope(size_t p, size_t l);
 /* SPEC 9.2, for a call that is lent a tile: 1, 2 or 3. */
 enum refusal judge_tile(size_t p, size_t l, size_t tile_len);
 
-/* SPEC 11.1: kind * 2^32 + first * 2^16 + second. The second is 0 in all of them. */
+/* SPEC 11.1: kind * 2^32 + first * 2^16 + second. The second is 0 in all of them but the cell's. */
 uint64_t word_done(void);
 uint64_t word_slope(size_t slope);
 uint64_t word_column(size_t column);
 uint64_t word_row(size_t row);
+uint64_t word_cell(size_t row, size_t column);
 uint64_t word_refused(enum refusal refusal);
 uint64_t word_end(void);
 

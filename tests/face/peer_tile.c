@@ -66,19 +66,44 @@ uint64_t peer_read(size_t p, size_t l, const uint8_t *tile, size_t tile_len, uin
     return word_done();
 }
 
-/* SPEC 5.3, step 2, and for rows step 3: the number of the first column, or row, that explains the tile, which becomes the good one. Gives
- * p-1 where none does. */
-static size_t repair_one(const struct given_tile *given, uint8_t *tile, int is_column)
+/* SPEC 5.3, step 2: takes one column after the other as unknown, and then one row after the other, until there is a solution, which the
+ * tile becomes. Gives 0 where there is none. The order does not matter: all that have a solution have the same one. */
+static int repair_one(const struct given_tile *given, uint8_t *tile)
 {
-    struct strip strip = {is_column, 0};
-    while (strip.number < given->p - 1 && !solve(given, &strip, 1, tile))
-        strip.number++;
-    return strip.number;
+    for (int is_column = 1; is_column >= 0; is_column--) {
+        for (size_t number = 0; number < given->p - 1; number++) {
+            struct strip strip = {is_column, number};
+            if (solve(given, &strip, 1, tile))
+                return 1;
+        }
+    }
+    return 0;
 }
 
-/* SPEC 5.3: clean; or the first column that explains it; or the first row; or 5. */
+/* SPEC 5.3, step 3: all cells of the two tiles are compared, and those in which they differ (SPEC 3.4) are counted. One is told by its row
+ * and its column. Of more, all stand in one column, or else in one row. */
+static uint64_t name_difference(size_t p, const uint8_t *lent, const uint8_t *good)
+{
+    size_t count = 0, row = 0, column = 0;
+    int is_one_column = 1;
+    for (size_t k = 0; k < tile_length(p); k++) {
+        if (lent[k] == good[k])
+            continue;
+        if (count > 0 && k % (p - 1) != column)
+            is_one_column = 0;
+        row = k / (p - 1);
+        column = k % (p - 1);
+        count++;
+    }
+    if (count == 1)
+        return word_cell(row, column);
+    return is_one_column ? word_column(column) : word_row(row);
+}
+
+/* SPEC 5.3: clean; or the name of what the good tile differs in; or 5. */
 uint64_t peer_repair(size_t p, size_t l, uint8_t *tile, size_t tile_len)
 {
+    static uint8_t lent[LARGEST_TILE];
     enum refusal refusal = judge_tile(p, l, tile_len);
     if (refusal != ACCEPTED)
         return word_refused(refusal);
@@ -86,13 +111,8 @@ uint64_t peer_repair(size_t p, size_t l, uint8_t *tile, size_t tile_len)
     give_tile(&given, p, l, tile);
     if (is_good(&given))
         return word_done();
-    size_t column = repair_one(&given, tile, 1);
-    if (column < p - 1)
-        return word_column(column);
-    size_t row = repair_one(&given, tile, 0);
-    if (row < p - 1)
-        return word_row(row);
-    return word_refused(DAMAGED);
+    memcpy(lent, tile, tile_len);
+    return repair_one(&given, tile) ? name_difference(p, lent, tile) : word_refused(DAMAGED);
 }
 
 /* SPEC 11.3: rows below 8000 hex, columns from there on. */

@@ -11,6 +11,7 @@ pub mod Xored
 pub mod Settle
 pub mod Turn
 pub mod OneLine
+pub mod Differ
 pub mod Chain
 pub mod Pair
 pub mod Columns

@@ -2,6 +2,7 @@
 -- crate `xor` it uses `a ⊕ b`, `xorBelow n f`, the XOR of f 0 to f (n - 1), and `keep`, a value where a test holds and else 0. Assumes
 -- nothing.
 use mathlib.Core.Path.{_≡_}
+use mathlib.Core.Logic.{_≢_}
 use mathlib.Core.List.{List}
 use Prim.Native.Nat.{ℕ, _+_, _-_, _*_, _/_, _%_, _<_}
 use lib.Dec.{eqb, ltb}
@@ -75,6 +76,12 @@ EqualOutside p a x y = (i j : ℕ) → i < p - 1 → j < p - 1 → (On a i j →
 -- SPEC 3.4: two tiles agree outside two lines. Where one line is named twice, as in 5.4, they agree outside that line
 abbrev pub EqualOutsideBoth : ℕ → Line → Line → List ℕ → List ℕ → Type 0
 EqualOutsideBoth p a b x y = (i j : ℕ) → i < p - 1 → j < p - 1 → (On a i j → ⊥) → (On b i j → ⊥) → cell p x i j ≡ cell p y i j
+
+-- SPEC 3.4: two tiles differ in cell (i, j), which is one of theirs
+pub record Differ (p : ℕ) (x y : List ℕ) (i j : ℕ) : Type 0 where
+  pub row : i < p - 1
+  pub column : j < p - 1
+  pub bytes : cell p x i j ≢ cell p y i j
 
 -- SPEC 5.4: y is a filling of x, a good tile that agrees with x outside the lines a and b
 pub record Fills (p l : ℕ) (a b : Line) (x y : List ℕ) : Type 0 where

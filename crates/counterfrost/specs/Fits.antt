@@ -1,12 +1,13 @@
 -- Every number that is answered fits into its 16 bits of a word. Assumes nothing.
 use mathlib.Core.List.{List}
-use Prim.Native.Nat.{ℕ, _<_}
+use Prim.Native.Nat.{ℕ, _≤_}
 use native.Mathlib.Omega.{arith}
 use Rattle.code.specs.declared.Line.{Line}
 use Rattle.size.specs.Answer as size
 use Rattle.promise.specs.Answer as tile
-use Rattle.promise.specs.Calls.{Admitted, judged, no-length, WriteTold, ReadTold, RepairTold, FillTold}
-use Rattle.promise.specs.Promise.{column-within, row-within}
+use Rattle.promise.specs.Calls.{Admitted, judged, no-length, WriteTold, ReadTold, Named, by-cell, by-column, by-row, RepairTold, FillTold}
+use Rattle.promise.specs.Admit.{admitted-well}
+use Rattle.promise.specs.Name.{named-in}
 use Rattle.sheet.specs.Answer as sheet
 use Rattle.sheet.specs.Calls as sheet-calls
 use Rattle.reel.specs.Answer as reel
@@ -38,12 +39,16 @@ read-fits (ReadTold.refuses h) = admitted-fits h
 read-fits (ReadTold.not-good h f) = (omega arith, omega arith)
 read-fits (ReadTold.reads h g) = (omega arith, omega arith)
 
--- the line that repair names is one of the tile's
+named-fits : {p : ℕ} {x y : List ℕ} {said : tile.Said} → p ≤ 257 → Named p x y said → Fits (tileAnswer said)
+named-fits high (by-cell o) = (omega (arith, o .here .row), omega (arith, o .here .column))
+named-fits high (by-column m) = (omega (arith, named-in (by-column m)), omega arith)
+named-fits high (by-row m) = (omega (arith, named-in (by-row m)), omega arith)
+
+-- the cell or the line that repair names is one of the tile's
 pub repair-fits : {p l : ℕ} {x y : List ℕ} {said : tile.Said} → RepairTold p l x said y → Fits (tileAnswer said)
 repair-fits (RepairTold.refuses h) = admitted-fits h
 repair-fits (RepairTold.is-good h g) = (omega arith, omega arith)
-repair-fits (RepairTold.by-column h f e first) = (omega (arith, column-within (RepairTold.by-column h f e first)), omega arith)
-repair-fits (RepairTold.by-row h f e first) = (omega (arith, row-within (RepairTold.by-row h f e first)), omega arith)
+repair-fits {p} (RepairTold.mends h e n) = named-fits (admitted-well h .0 .high) n
 repair-fits (RepairTold.by-none h f) = (omega arith, omega arith)
 
 pub fill-fits : {p l : ℕ} {x y : List ℕ} {a b : Line} {said : tile.Said} → FillTold p l x a b said y → Fits (tileAnswer said)

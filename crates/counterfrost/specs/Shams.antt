@@ -5,6 +5,7 @@ use Prim.Native.Nat.{ℕ}
 use native.Mathlib.Omega.{arith}
 use lib.ListN.{length}
 use Rattle.code.specs.Tile.{textLength, textOf, Good}
+use Rattle.code.specs.Differ.{differ-on}
 use Rattle.code.specs.declared.Line.the-variants.{Row}
 use Rattle.size.specs.Answer as size
 use Rattle.size.specs.Shams.{size-5, at-5-2}
@@ -14,7 +15,7 @@ use Rattle.promise.specs.Calls as tile-calls
 use Rattle.promise.specs.Calls.{WriteTold, Explains, RepairTold}
 use Rattle.promise.specs.Explain.{explains-fills}
 use Rattle.promise.specs.Worked as tile-case
-use Rattle.promise.specs.Worked.{zeros, text-1, tile-1, tile-4, tile-6, tile-9, filled-9, copied-1}
+use Rattle.promise.specs.Worked.{zeros, text-1, tile-1, tile-4, tile-6, tile-8, repaired-8, tile-9, filled-9, copied-1}
 use Rattle.sheet.specs.Answer as sheet
 use Rattle.sheet.specs.Calls as sheet-calls
 use Rattle.sheet.specs.Worked as sheet-case
@@ -32,7 +33,8 @@ written-good : {p l : ℕ} {text x y : List ℕ} → WriteTold p l text x tile.d
 written-good (WriteTold.writes h w) = w .good
 
 by-row : {p l r : ℕ} {x y : List ℕ} → RepairTold p l x (tile.row r) y → Explains p l (Row r) x y
-by-row (RepairTold.by-row h f e first) = e
+by-row {p} {l} {r} {x} {y} (RepairTold.mends h e (tile-calls.by-row m)) =
+    record { size = e .size; good = e .good; same = differ-on p (Row r) x y .1 (m .within) }
 
 -- ---- the house slope
 
@@ -74,7 +76,7 @@ takes-slope-first t = omega (arith, takes-word-once 4 0 (word (refusal 1)) (word
 -- ---- the version
 
 -- a library that says the version before this one, and one that says none
-pub version-stale : _≡_ {A = ℕ} 100 version → ⊥
+pub version-stale : _≡_ {A = ℕ} 200 version → ⊥
 version-stale e = omega (arith, e)
 
 pub version-missing : _≡_ {A = ℕ} 0 version → ⊥
@@ -131,16 +133,27 @@ read-refusal-done page x e t =
 
 -- ---- repair
 
-repaired-4 : RepairWorded 5 2 tile-4 (word (answer 1 3 0)) zeros
-repaired-4 = record { said = tile.column 3; right = tile-case.claimed 4 .0; is = refl }
+mended-8 : RepairWorded 5 2 tile-8 (word (answer 1 3 0)) repaired-8
+mended-8 = record { said = tile.column 3; right = tile-case.claimed 8 .0; is = refl }
 
 -- a repair that tells a column as a row
-pub column-told-row : (x : List ℕ) → RepairWorded 5 2 tile-4 (word (answer 2 3 0)) x → ⊥
-column-told-row x t = omega (arith, repair-word-once 5 2 tile-4 (word (answer 1 3 0)) (word (answer 2 3 0)) zeros x repaired-4 t .0)
+pub column-told-row : (x : List ℕ) → RepairWorded 5 2 tile-8 (word (answer 2 3 0)) x → ⊥
+column-told-row x t = omega (arith, repair-word-once 5 2 tile-8 (word (answer 1 3 0)) (word (answer 2 3 0)) repaired-8 x mended-8 t .0)
 
 -- one that names the column second
-pub column-second : (x : List ℕ) → RepairWorded 5 2 tile-4 (word (answer 1 0 3)) x → ⊥
-column-second x t = omega (arith, repair-word-once 5 2 tile-4 (word (answer 1 3 0)) (word (answer 1 0 3)) zeros x repaired-4 t .0)
+pub column-second : (x : List ℕ) → RepairWorded 5 2 tile-8 (word (answer 1 0 3)) x → ⊥
+column-second x t = omega (arith, repair-word-once 5 2 tile-8 (word (answer 1 3 0)) (word (answer 1 0 3)) repaired-8 x mended-8 t .0)
+
+mended-4 : RepairWorded 5 2 tile-4 (word (answer 3 2 3)) zeros
+mended-4 = record { said = tile.cell 2 3; right = tile-case.claimed 4 .0; is = refl }
+
+-- one that still tells a lone byte as its column
+pub cell-told-column : (x : List ℕ) → RepairWorded 5 2 tile-4 (word (answer 1 3 0)) x → ⊥
+cell-told-column x t = omega (arith, repair-word-once 5 2 tile-4 (word (answer 3 2 3)) (word (answer 1 3 0)) zeros x mended-4 t .0)
+
+-- one that tells the cell's column first
+pub cell-exchanged : (x : List ℕ) → RepairWorded 5 2 tile-4 (word (answer 3 3 2)) x → ⊥
+cell-exchanged x t = omega (arith, repair-word-once 5 2 tile-4 (word (answer 3 2 3)) (word (answer 3 3 2)) zeros x mended-4 t .0)
 
 -- ---- fill
 

@@ -44,7 +44,7 @@ pub extern "C" fn cf_read(p: usize, l: usize, tile: &[u8], text: &mut [u8]) -> u
     word::of_outcome(tile::read(p, l, tile, text))
 }
 
-// Repairs one hurt column, or one hurt row.
+// Repairs one hurt column, or one hurt row, and names what was hurt.
 #[no_mangle]
 pub extern "C" fn cf_repair(p: usize, l: usize, tile: &mut [u8]) -> u64
     ensures { λ r. ⌜ RepairWorded p l (now (tile .entry)) r (now (tile .exit)) ⌝ }
@@ -129,7 +129,7 @@ fn of_house(answer: House) -> u64
     ensures { λ r. ⌜ r ≡ spec.word (spec.sizeAnswer (houseSaid answer)) ⌝ }
 {
     match answer {
-        House::Slope(l) => word::word(word::DONE, l as u16),
+        House::Slope(l) => word::word(word::DONE, l as u16, 0),
         House::Refused(refusal) => word::refused(refusal),
     }
 }
@@ -141,8 +141,9 @@ fn of_repair(answer: Repaired) -> u64
 {
     match answer {
         Repaired::Clean => word::done(),
-        Repaired::Column(c) => word::word(word::COLUMN, c as u16),
-        Repaired::Row(r) => word::word(word::ROW, r as u16),
+        Repaired::Cell(r, c) => word::word(word::CELL, r as u16, c as u16),
+        Repaired::Column(c) => word::word(word::COLUMN, c as u16, 0),
+        Repaired::Row(r) => word::word(word::ROW, r as u16, 0),
         Repaired::Refused(refusal) => word::refused(refusal),
     }
 }

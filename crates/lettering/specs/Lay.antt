@@ -29,3 +29,11 @@ word-laid text word laid = rw (append-assoc text word lf) laid
 pub number-laid : (text word : List ℕ) (n : ℕ) {bytes new : List ℕ} {count more : ℕ} → Holds bytes count (text ++ (word ++ space))
     → Holds new more (take count bytes ++ decimal n ++ lf) → Holds new more (text ++ (word ++ space ++ decimal n) ++ lf)
 number-laid text word n first second = rw (append-assoc text (word ++ space) (decimal n)) at (rw (first .is) at second)
+
+-- a word, a space, a number, a space, a second number and the LF
+pub two-laid : (text word : List ℕ) (m n : ℕ) {bytes new last : List ℕ} {count more most : ℕ} → Holds bytes count (text ++ (word ++ space))
+    → Holds new more (take count bytes ++ decimal m ++ space) → Holds last most (take more new ++ decimal n ++ lf)
+    → Holds last most (text ++ (word ++ space ++ decimal m ++ space ++ decimal n) ++ lf)
+two-laid text word m n first second third =
+    rw (append-assoc text (word ++ space) (decimal m), append-assoc text (word ++ space ++ decimal m) space, append-assoc text (word ++ space ++ decimal m ++ space) (decimal n))
+    at (rw (second .is, first .is) at third)

@@ -8,7 +8,7 @@ use Prim.Native.String.{String}
 use Prim.Native.String as string
 use lib.Dec.{ltb}
 use lib.ListN.{length, take}
-use Rattle.promise.specs.Answer.{Said, done, clean, column, row, refused}
+use Rattle.promise.specs.Answer.{Said, done, clean, cell, column, row, refused}
 
 -- ---- words and numbers
 
@@ -43,6 +43,7 @@ lf = ascii "\n"
 unfoldable pub stateText : Said → List ℕ
 stateText done = []
 stateText clean = ascii "clean"
+stateText (cell r c) = ascii "cell" ++ space ++ decimal r ++ space ++ decimal c
 stateText (column c) = ascii "column" ++ space ++ decimal c
 stateText (row r) = ascii "row" ++ space ++ decimal r
 stateText (refused n) = ascii "refused" ++ space ++ decimal n

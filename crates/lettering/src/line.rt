@@ -10,10 +10,10 @@ ghost use Rattle.size.specs.Refusal.{numberOf};
 ghost use Rattle.promise.specs.Answer.{repairSaid};
 ghost use Rattle.lettering.specs.Line.{Holds, lf, decimal, stateText, tileLine, endLine, stoppedLine};
 
-// A line: the first `length` of its bytes. There is room for every line: four numbers of at most 20 digits, the longest word, the
-// spaces between them and the LF make 92 bytes.
+// A line: the first `length` of its bytes. There is room for every line: five numbers of at most 20 digits, the word `cell`, the spaces
+// between them and the LF make 110 bytes.
 pub struct Line {
-    pub bytes: [u8; 96],
+    pub bytes: [u8; 112],
     pub length: usize,
 }
 
@@ -23,14 +23,14 @@ fn nothing() -> Line
     ensures { λ r. ⌜ r .length ≡ 0 ⌝ }
 {
     Line {
-        bytes: [0u8; 96],
+        bytes: [0u8; 112],
         length: 0,
     }
 }
 
 // The line with words behind what it has.
 fn with_words(line: Line, words: &[u8]) -> Line
-    requires { ⌜ line .length + length (now words) ≤ 96 ⌝ }
+    requires { ⌜ line .length + length (now words) ≤ 112 ⌝ }
     ensures { λ r. ⌜ Holds (r .bytes) (r .length) (take (line .length) (line .bytes) ++ now (words .entry)) ⌝ }
     ensures { λ r. ⌜ r .length ≡ line .length + length (now (words .entry)) ⌝ }
 {
@@ -45,7 +45,7 @@ fn with_words(line: Line, words: &[u8]) -> Line
 
 // The line with a number behind what it has, and then a sign: a space, or the LF.
 fn with_number(line: Line, n: usize, sign: u8) -> Line
-    requires { ⌜ line .length + 21 ≤ 96 ⌝ }
+    requires { ⌜ line .length + 21 ≤ 112 ⌝ }
     ensures { λ r. ⌜ Holds (r .bytes) (r .length) (take (line .length) (line .bytes) ++ decimal n ++ (sign ∷ [])) ⌝ }
     ensures { λ r. ⌜ r .length ≤ line .length + 21 ⌝ }
 {
@@ -62,6 +62,11 @@ fn with_state(line: Line, state: Repaired) -> Line
 {
     match state {
         Repaired::Clean => with_words(line, b"clean\n"),
+        Repaired::Cell(r, c) => with_number(
+            with_number(with_words(line, b"cell "), r, b' '),
+            c,
+            b'\n',
+        ),
         Repaired::Column(c) => with_number(with_words(line, b"column "), c, b'\n'),
         Repaired::Row(r) => with_number(with_words(line, b"row "), r, b'\n'),
         Repaired::Refused(no) => with_number(

@@ -4,10 +4,10 @@ use mathlib.Core.List.{List, _++_, append-cancel-left, append-cancel-right}
 use Prim.Native.Nat.{ℕ}
 use native.Mathlib.Omega.{arith}
 use lib.ListN.{getD, take}
-use Rattle.promise.specs.Answer.{clean, column}
+use Rattle.promise.specs.Answer.{clean, cell, column}
 use Rattle.lettering.specs.Line.{ascii, space, lf, decimal, tileLine, endLine, stoppedLine, Holds}
 use Rattle.lettering.specs.Decimal.{decimal-once}
-use Rattle.listing.specs.Worked.{tile-7, tile-8, stopped-7, end-0}
+use Rattle.listing.specs.Worked.{tile-7, tile-8, column-3, stopped-7, end-0}
 
 -- a line that holds a text has its signs: the k-th of them
 sign : {bytes text : List ℕ} {count : ℕ} → Holds bytes count text → {right wrong : List ℕ} → text ≡ right → take count bytes ≡ wrong
@@ -23,7 +23,14 @@ module _ {bytes : List ℕ} {count : ℕ} where
 
   -- the row's word for a column
   pub row-for-column : Holds bytes count (tileLine 8 5 2 (column 3)) → take count bytes ≡ ascii "8 5 2 row 3\n" → ⊥
-  row-for-column holds said = let z = sign holds tile-8 said 6 in omega arith
+  row-for-column holds said = let z = sign holds column-3 said 6 in omega arith
+
+  -- a cell by its column alone, and a cell with its column first
+  pub column-for-cell : Holds bytes count (tileLine 8 5 2 (cell 2 3)) → take count bytes ≡ ascii "8 5 2 column 3\n" → ⊥
+  column-for-cell holds said = let z = sign holds tile-8 said 7 in omega arith
+
+  pub cell-exchanged : Holds bytes count (tileLine 8 5 2 (cell 2 3)) → take count bytes ≡ ascii "8 5 2 cell 3 2\n" → ⊥
+  cell-exchanged holds said = let z = sign holds tile-8 said 11 in omega arith
 
   -- a line without its LF
   pub no-lf : Holds bytes count (tileLine 7 5 2 clean) → take count bytes ≡ ascii "7 5 2 clean" → ⊥

@@ -7,8 +7,8 @@ use Rattle.xor.specs.Xor.{_⊕_}
 use Rattle.xor.specs.Sum.{xorBelow}
 use Rattle.code.specs.Tile.{place, cell, sum}
 use Rattle.residue.specs.Test.{upTo}
-use Rattle.promise.specs.Answer.{clean, column, row, refused}
-use Rattle.promise.specs.Decide.{both, same, good, not-good, outside, filling, none-of}
+use Rattle.promise.specs.Answer.{Said, clean, column, row, refused}
+use Rattle.promise.specs.Decide.{both, same, good, outside, differing, filling, one-byte}
 use Rattle.promise.specs.Worked.{Claim, repairs, zeros, mends, admitted-tile, tested}
 use Rattle.reel.specs.Calls.{ends}
 use Rattle.reel.specs.Worked.{whole-case, first, second, walked}
@@ -23,7 +23,7 @@ pub tile-7 : tileLine 7 5 2 clean ≡ ascii "7 5 2 clean\n"
 unfolding tileLine stateText decimal digitsUpTo
 tile-7 = refl
 
-pub tile-8 : tileLine 8 5 2 (column 3) ≡ ascii "8 5 2 column 3\n"
+pub tile-8 : tileLine 8 5 2 (Said.cell 2 3) ≡ ascii "8 5 2 cell 2 3\n"
 unfolding tileLine stateText decimal digitsUpTo
 tile-8 = refl
 
@@ -37,6 +37,10 @@ unfolding endLine decimal digitsUpTo
 end-0 = refl
 
 -- the other answers, and the numbers at the edges
+pub column-3 : tileLine 8 5 2 (column 3) ≡ ascii "8 5 2 column 3\n"
+unfolding tileLine stateText decimal digitsUpTo
+column-3 = refl
+
 pub row-10 : tileLine 0 11 2 (row 10) ≡ ascii "0 11 2 row 10\n"
 unfolding tileLine stateText decimal digitsUpTo
 row-10 = refl
@@ -55,9 +59,9 @@ abbrev hurt : List ℕ
 hurt = 0 ∷ 0 ∷ 0 ∷ 0 ∷ 0 ∷ 0 ∷ 0 ∷ 0 ∷ 0 ∷ 0 ∷ 0 ∷ 0x41 ∷ 0 ∷ 0 ∷ 0 ∷ 0 ∷ []
 
 -- what repair says of the two tiles
-computed : Claim (repairs zeros clean zeros) × Claim (repairs hurt (column 3) zeros)
-unfolding tested mends admitted-tile same good not-good outside filling none-of upTo sum cell place xorBelow _⊕_
-computed = both (tested (repairs zeros clean zeros)) (tested (repairs hurt (column 3) zeros)) .shows tt
+computed : Claim (repairs zeros clean zeros) × Claim (repairs hurt (Said.cell 2 3) zeros)
+unfolding tested mends admitted-tile same good outside differing filling one-byte upTo sum cell place xorBelow _⊕_
+computed = both (tested (repairs zeros clean zeros)) (tested (repairs hurt (Said.cell 2 3) zeros)) .shows tt
 
 -- a text that R asks for, and no other
 abbrev pub Only : (List ℕ → Type 0) → List ℕ → Type 0
@@ -69,7 +73,7 @@ first-line =
     let line = rw tile-7 at (lists first (record { new = zeros; told = computed .0 .0 })) in
     (line, λ other said. listed-once said line)
 
-pub second-line : Only (TileListed whole-case 26) (ascii "8 5 2 column 3\n")
+pub second-line : Only (TileListed whole-case 26) (ascii "8 5 2 cell 2 3\n")
 second-line =
     let line = rw tile-8 at (lists second (record { new = zeros; told = computed .1 .0 })) in
     (line, λ other said. listed-once said line)

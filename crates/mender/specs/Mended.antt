@@ -1,17 +1,17 @@
 -- How a repair ends: what the search found, and the change that was made to the tile, make an outcome that the call's relation allows.
 -- Assumes nothing.
-use mathlib.Core.Path.{_≡_, sym, ap, _∙_}
+use mathlib.Core.Path.{_≡_, sym, _∙_}
 use mathlib.Core.List.{List}
 use Prim.Native.Nat.{ℕ, _-_, _<_}
 use native.Mathlib.Omega.{arith}
 use lib.ListN.{length}
-use Rattle.xor.specs.Xor.{_⊕_, zero-r, self}
+use Rattle.xor.specs.Xor.{self}
 use Rattle.code.specs.Slope.{Slope, slope-inverse}
-use Rattle.code.specs.Tile.{tileLength, cell, sum, Good, On}
+use Rattle.code.specs.Tile.{tileLength, cell, sum, Good}
+use Rattle.code.specs.Differ.{agree-at}
 use Rattle.code.specs.Settle.{settles-ext}
-use Rattle.code.specs.OneLine.{number, Agree, shifted, along, along-off, along-ext, along-padded, one-line-settles}
+use Rattle.code.specs.OneLine.{number, Agree, shifted, along, along-ext, along-padded, one-line-settles}
 use Rattle.code.specs.declared.Line.{Line}
-use Rattle.code.specs.declared.Line.the-variants.{Row, Column}
 use Rattle.size.specs.Answer as size
 use Rattle.walk.specs.Sums.{AllOne}
 use Rattle.walk.specs.Good.{one-good, good-one}
@@ -20,17 +20,13 @@ use Rattle.search.specs.Column.{Shifted}
 use Rattle.search.specs.Hurt as hurt
 use Rattle.search.specs.declared.hurt.Hurt.{Hurt}
 use Rattle.search.specs.declared.hurt.Hurt.the-variants as found
-use Rattle.promise.specs.Answer.{clean, column, row, refused}
-use Rattle.promise.specs.Calls.{Admitted, TileLength, Explains, Unexplained, RepairTold, is-good, by-column, by-row, by-none, Has}
+use Rattle.promise.specs.Answer.{Said, clean, refused}
+use Rattle.promise.specs.Calls.{Admitted, TileLength, Explains, Unexplained, RepairTold, is-good, mends, by-none, Has}
 use Rattle.promise.specs.Admit.{admitted-well, slope-of}
-use Rattle.promise.specs.Explain.{explains-has, explained}
+use Rattle.promise.specs.Explain.{same-good, explains-has, explained}
+use Rattle.mender.specs.Called.{Called, unchanged}
 
 -- ---- one line
-
--- outside a line its change is nothing
-unchanged : (p : ℕ) (a : Line) (X : ℕ → ℕ) (x z : List ℕ) → Added p (along a X) x z → (i j : ℕ) → i < p - 1 → j < p - 1 → (On a i j → ⊥) → cell p x i j ≡ cell p z i j
-unchanged p a X x z added i j hi hj d =
-    sym (added i j hi hj ∙ ap (λ (w : ℕ). cell p x i j ⊕ w) (along-off p a X i j (omega arith) (omega arith) d) ∙ zero-r _)
 
 -- a line's change, where the sums agree along it
 pub line-explains : (p l : ℕ) (a : Line) (X : ℕ → ℕ) (x z : List ℕ) → Slope p l → Has p a → length z ≡ tileLength p
@@ -41,7 +37,7 @@ line-explains p l a X x z S h size agree shift added = record {
       changed-good p l x z (along a X) (along-padded p a X (omega arith) (shift (p - 1) (omega (arith, S .high)) ∙ self _))
       (settles-ext p l _ _ (along a (shifted p (sum p 1 (cell p x)) a)) (along a X) (along-ext p a _ X (λ k q. sym (shift k q)))
       (let m = slope-inverse p l S in one-line-settles p l (m .0) (m .1) _ _ a (omega arith) agree)) added;
-  same = unchanged p a X x z added;
+  same = unchanged p a X x z (omega arith) added;
 }
 
 -- a line that the sums do not agree along explains nothing
@@ -66,29 +62,17 @@ module _ (p l : ℕ) (x : List ℕ) (X : ℕ → ℕ) (a : Admitted p l (TileLen
   disagrees b d f = line-unexplained p l b x (slope-of a) (spoiled d) f
 
   -- the line that was found is one of the tile's
-  pub column-in : {c : ℕ} → Found (found.Column c) → c < p - 1
-  column-in (hurt.column d h e columns w) = h
+  pub line-in : {b : Line} → Found (found.One b) → number b < p - 1
+  line-in (hurt.one d h e w) = h
 
-  pub row-in : {r : ℕ} → Found (found.Row r) → r < p - 1
-  row-in (hurt.row d h columns e rows w) = h
-
-  -- nothing was found hurt; a column was, and its change is added; a row; or no line explains it
+  -- nothing was found hurt; a line was, and its change is added, which is called s; or no line explains it
   pub ends-clean : Found found.Nothing → RepairTold p l x clean x
   ends-clean (hurt.good g) = is-good a (one-good p l x g)
 
-  pub ends-column : {c : ℕ} (z : List ℕ) → Found (found.Column c) → length z ≡ length x → Added p (along (Column c) X) x z → RepairTold p l x (column c) z
-  ends-column {c} z (hurt.column d h e columns w) size added =
-      by-column a (spoiled d) (line-explains p l (Column c) X x z (slope-of a) (omega arith) (size ∙ admitted-well a .2) e w added)
-      (λ k q. disagrees (Column k) d (λ m. columns k q))
-
-  pub ends-row : {r : ℕ} (z : List ℕ) → Found (found.Row r) → length z ≡ length x → Added p (along (Row r) X) x z → RepairTold p l x (row r) z
-  ends-row {r} z (hurt.row d h columns e rows w) size added =
-      by-row a (λ k. disagrees (Column k) d (columns k)) (line-explains p l (Row r) X x z (slope-of a) (omega arith) (size ∙ admitted-well a .2) e w added)
-      (λ k q. disagrees (Row k) d (λ m. rows k q))
+  pub ends-mended : {b : Line} {s : Said} (z : List ℕ) → Found (found.One b) → length z ≡ length x → Added p (along b X) x z → Called p b X s → RepairTold p l x s z
+  ends-mended {b} z (hurt.one d h e w) size added called =
+      let by = line-explains p l b X x z (slope-of a) (omega arith) (size ∙ admitted-well a .2) e w added in
+      mends a by (called .names x z h added (λ none. spoiled d (same-good p l x z (λ i j hi hj. agree-at p x z i j hi hj (none i j)) (by .good))))
 
   pub ends-damaged : Found found.More → RepairTold p l x (refused 5) x
-  ends-damaged (hurt.more d columns rows) = by-none a go
-    where
-      go : (b : Line) → Unexplained p l x b
-      go (Column k) = disagrees (Column k) d (columns k)
-      go (Row k) = disagrees (Row k) d (rows k)
+  ends-damaged (hurt.more d none) = by-none a (λ b. disagrees b d (none b))

@@ -6,10 +6,12 @@ use Rattle.promise.specs.declared.Outcome.the-variants as outcome
 use Rattle.promise.specs.declared.Repaired.{Repaired}
 use Rattle.promise.specs.declared.Repaired.the-variants as repair
 
--- SPEC 5 and 5.3: done, of write, read and fill; clean, a column or a row, of repair; and of all four the number of a refusal
+-- SPEC 5 and 5.3: done, of write, read and fill; clean, a cell by its row and its column, a column or a row, of repair; and of all four the
+-- number of a refusal
 pub data Said : Type 0 where
   done : Said
   clean : Said
+  cell : ℕ → ℕ → Said
   column : ℕ → Said
   row : ℕ → Said
   refused : ℕ → Said
@@ -21,6 +23,7 @@ outcomeSaid (outcome.Refused r) = refused (numberOf r)
 
 abbrev pub repairSaid : Repaired → Said
 repairSaid repair.Clean = clean
+repairSaid (repair.Cell r c) = cell r c
 repairSaid (repair.Column c) = column c
 repairSaid (repair.Row r) = row r
 repairSaid (repair.Refused r) = refused (numberOf r)

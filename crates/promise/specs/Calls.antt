@@ -2,14 +2,14 @@
 -- answered, and what the lent bytes are afterwards. Assumes nothing.
 use mathlib.Core.Path.{_≡_}
 use mathlib.Core.List.{List}
-use Prim.Native.Nat.{ℕ, _+_, _≤_, _<_}
+use Prim.Native.Nat.{ℕ, _+_, _≤_}
 use lib.ListN.{length}
-use Rattle.code.specs.Tile.{tileLength, textLength, Good, textOf, Writes, EqualOutside, Fills}
+use Rattle.code.specs.Tile.{tileLength, textLength, Good, textOf, Writes, On, EqualOutside, Differ, Fills}
 use Rattle.code.specs.OneLine.{number}
 use Rattle.code.specs.declared.Line.{Line}
 use Rattle.code.specs.declared.Line.the-variants.{Row, Column}
 use Rattle.size.specs.Answer as size
-use Rattle.promise.specs.Answer.{Said, done, clean, column, row, refused}
+use Rattle.promise.specs.Answer.{Said, done, clean, cell, column, row, refused}
 
 -- SPEC 5 and 9.2: how every tile call begins: refused 1 or 2 as p and l are judged, then 3 where a length is wrong; otherwise it goes on
 pub data Admitted (p l : ℕ) (Lengths : Type 0) : size.Said → Type 0 where
@@ -45,15 +45,35 @@ pub record Explains (p l : ℕ) (a : Line) (x y : List ℕ) : Type 0 where
 abbrev pub Unexplained : ℕ → ℕ → List ℕ → Line → Type 0
 Unexplained p l x a = (y : List ℕ) → Explains p l a x y → ⊥
 
--- SPEC 5.3: REPAIR. A good tile is clean. Any other becomes the good one of the first column that explains it, or, if no column does, of
--- the first row; if no row does either, it is refused with 5
+-- SPEC 5.3: two tiles differ in exactly one byte, in cell (i, j)
+pub record OneByte (p : ℕ) (x y : List ℕ) (i j : ℕ) : Type 0 where
+  pub here : Differ p x y i j
+  pub alone : (r k : ℕ) → Differ p x y r k → (r ≡ i) × (k ≡ j)
+
+-- SPEC 5.3: two tiles differ in two bytes or more, and all of these stand on the line a
+pub record MoreBytes (p : ℕ) (x y : List ℕ) (a : Line) : Type 0 where
+  pub i : ℕ
+  pub j : ℕ
+  pub r : ℕ
+  pub k : ℕ
+  pub one : Differ p x y i j
+  pub other : Differ p x y r k
+  pub apart : (i ≡ r) × (j ≡ k) → ⊥
+  pub within : (m n : ℕ) → Differ p x y m n → On a m n
+
+-- SPEC 5.3: the name of the difference between two tiles: the cell of one byte, the line of more
+pub data Named (p : ℕ) (x y : List ℕ) : Said → Type 0 where
+  by-cell : {i j : ℕ} → OneByte p x y i j → Named p x y (cell i j)
+  by-column : {c : ℕ} → MoreBytes p x y (Column c) → Named p x y (column c)
+  by-row : {r : ℕ} → MoreBytes p x y (Row r) → Named p x y (row r)
+
+-- SPEC 5.3: REPAIR. A good tile is clean. Any other becomes a good one that agrees with it outside one line, and the answer is the name of
+-- their difference; if no line explains it, it is refused with 5
 pub data RepairTold (p l : ℕ) (tile : List ℕ) : Said → List ℕ → Type 0 where
   refuses : {n : ℕ} → Admitted p l (TileLength p tile) (size.refused n) → RepairTold p l tile (refused n) tile
   is-good : Admitted p l (TileLength p tile) size.well → Good p l tile → RepairTold p l tile clean tile
-  by-column : {c : ℕ} {new : List ℕ} → Admitted p l (TileLength p tile) size.well → (Good p l tile → ⊥)
-      → Explains p l (Column c) tile new → ((k : ℕ) → k < c → Unexplained p l tile (Column k)) → RepairTold p l tile (column c) new
-  by-row : {r : ℕ} {new : List ℕ} → Admitted p l (TileLength p tile) size.well → ((k : ℕ) → Unexplained p l tile (Column k))
-      → Explains p l (Row r) tile new → ((k : ℕ) → k < r → Unexplained p l tile (Row k)) → RepairTold p l tile (row r) new
+  mends : {a : Line} {said : Said} {new : List ℕ} → Admitted p l (TileLength p tile) size.well → Explains p l a tile new → Named p tile new said
+      → RepairTold p l tile said new
   by-none : Admitted p l (TileLength p tile) size.well → ((a : Line) → Unexplained p l tile a) → RepairTold p l tile (refused 5) tile
 
 -- SPEC 3.4: the tile has the line, whose number is 0 to p-2

@@ -4,13 +4,13 @@ use mathlib.Core.Path.{_≡_, refl, sym, ap, _∙_}
 use mathlib.Core.List.{List}
 use Prim.Native.Nat.{ℕ}
 use lib.ListN.{length}
-use Rattle.xor.specs.Xor.{_⊕_}
-use Rattle.code.specs.Tile.{tileLength, cell, Good, Fills, xored}
+use Rattle.xor.specs.Xor.{_⊕_, xors, from}
+use Rattle.code.specs.Tile.{tileLength, cell, Good, Differ, Fills, xored}
 use Rattle.code.specs.Xored.{xored-length, xored-twice, xored-cell, xored-good}
 use Rattle.code.specs.declared.Line.{Line}
 use Rattle.size.specs.Answer as size
 use Rattle.promise.specs.Answer.{Said, refused}
-use Rattle.promise.specs.Calls.{Admitted, TileLength, Explains, Unexplained, RepairTold, FillTold}
+use Rattle.promise.specs.Calls.{Admitted, TileLength, Explains, Unexplained, MoreBytes, Named, by-cell, by-column, by-row, RepairTold, FillTold}
 use Rattle.promise.specs.Admit.{admitted-well}
 use Rattle.promise.specs.Explain.{explains-fills}
 
@@ -40,20 +40,48 @@ module _ (p l : ℕ) (w : List ℕ) (g : Good p l w) where
   unexplained-carried : (a : Line) (x : List ℕ) → length x ≡ tileLength p → Unexplained p l x a → Unexplained p l (xored x w) a
   unexplained-carried a x e u y f = u (xored y w) (explains-fills p l a x (xored y w) .1 (fills-back a a x y e (explains-fills p l a (xored x w) y .0 f)))
 
-  hurt-carried : (x : List ℕ) → length x ≡ tileLength p → (Good p l x → ⊥) → Good p l (xored x w) → ⊥
-  hurt-carried x e d h = d (rw (xored-twice x w) at (xored-good p (xored x w) w (xored-length x w ∙ e) l h g))
+  -- two tiles to which w is added differ where they did ..
+  differ-carried : (x y : List ℕ) (i j : ℕ) → length x ≡ tileLength p → length y ≡ tileLength p → Differ p x y i j → Differ p (xored x w) (xored y w) i j
+  differ-carried x y i j e f d = record {
+    row = d .row;
+    column = d .column;
+    bytes = λ q. d .bytes
+        (from (sym (xored-cell p x w e i j (d .row) (d .column)) ∙ q ∙ xored-cell p y w f i j (d .row) (d .column)) (simp xors));
+  }
+
+  -- .. and nowhere else
+  differ-back : (x y : List ℕ) (i j : ℕ) → length x ≡ tileLength p → length y ≡ tileLength p → Differ p (xored x w) (xored y w) i j → Differ p x y i j
+  differ-back x y i j e f d =
+      rw (xored-twice x w, xored-twice y w) at (differ-carried (xored x w) (xored y w) i j (xored-length x w ∙ e) (xored-length y w ∙ f) d)
+
+  -- so what differs keeps its name
+  named-carried : (x y : List ℕ) {s : Said} → length x ≡ tileLength p → length y ≡ tileLength p → Named p x y s → Named p (xored x w) (xored y w) s
+  named-carried x y e f n = go n
+    where
+      more : {a : Line} → MoreBytes p x y a → MoreBytes p (xored x w) (xored y w) a
+      more m = record {
+        i = m .i;
+        j = m .j;
+        r = m .r;
+        k = m .k;
+        one = differ-carried x y (m .i) (m .j) e f (m .one);
+        other = differ-carried x y (m .r) (m .k) e f (m .other);
+        apart = m .apart;
+        within = λ i j d. m .within i j (differ-back x y i j e f d);
+      }
+
+      go : {s : Said} → Named p x y s → Named p (xored x w) (xored y w) s
+      go (by-cell {i} {j} o) = by-cell (record { here = differ-carried x y i j e f (o .here); alone = λ r k d. o .alone r k (differ-back x y r k e f d) })
+      go (by-column m) = by-column (more m)
+      go (by-row m) = by-row (more m)
 
   -- REPAIR carries w through
   pub repair-carried : {x y : List ℕ} {s : Said} → RepairTold p l x s y → RepairTold p l (xored x w) s (xored y w)
   repair-carried {x} (RepairTold.refuses h) = RepairTold.refuses (admitted-carried x h)
   repair-carried {x} (RepairTold.is-good h good) = RepairTold.is-good (admitted-carried x h) (xored-good p x w (admitted-well h .2) l good g)
-  repair-carried {x} {y} (RepairTold.by-column {c} h bad e before) =
+  repair-carried {x} {y} (RepairTold.mends {a} h e n) =
       let size = admitted-well h .2 in
-      RepairTold.by-column (admitted-carried x h) (hurt-carried x size bad) (explains-carried _ x y size e) (λ k q. unexplained-carried _ x size (before k q))
-  repair-carried {x} {y} (RepairTold.by-row {r} h columns e before) =
-      let size = admitted-well h .2 in
-      RepairTold.by-row (admitted-carried x h) (λ k. unexplained-carried _ x size (columns k)) (explains-carried _ x y size e)
-      (λ k q. unexplained-carried _ x size (before k q))
+      RepairTold.mends (admitted-carried x h) (explains-carried a x y size e) (named-carried x y size (e .size) n)
   repair-carried {x} (RepairTold.by-none h lines) = RepairTold.by-none (admitted-carried x h) (λ a. unexplained-carried a x (admitted-well h .2) (lines a))
 
   -- and so does FILL
@@ -68,6 +96,5 @@ module _ (p l : ℕ) (w : List ℕ) (g : Good p l w) where
 pub repaired-good : {p l : ℕ} {x y : List ℕ} {s : Said} → ((n : ℕ) → s ≡ refused n → ⊥) → RepairTold p l x s y → (length y ≡ tileLength p) × Good p l y
 repaired-good d (RepairTold.refuses {n} h) = absurd (d n refl)
 repaired-good d (RepairTold.is-good h g) = (admitted-well h .2, g)
-repaired-good d (RepairTold.by-column h bad e before) = (e .size, e .good)
-repaired-good d (RepairTold.by-row h columns e before) = (e .size, e .good)
+repaired-good d (RepairTold.mends h e n) = (e .size, e .good)
 repaired-good d (RepairTold.by-none h f) = absurd (d 5 refl)

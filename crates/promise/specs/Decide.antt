@@ -1,22 +1,25 @@
 -- Tests that antt computes, each with what it shows where it passes: that a tile at p 5, l 2 is good or not, that a tile is the filling of
--- another, or that there is none; and lists of cases, each with its test. Assumes nothing.
+-- another, or that there is none, in which cells two tiles differ; and lists of cases, each with its test. Assumes nothing.
 use mathlib.Core.Path.{_≡_, refl, sym, ap₂, _∙_}
-use mathlib.Core.Bool.{Bool, true, false, _&&_, not}
+use mathlib.Core.Bool.{Bool, true, false, _&&_, _||_, not}
 use mathlib.Core.List.{List, [], _∷_}
 use Prim.Native.Nat.{ℕ, zero, suc, _≤_, _<_}
-use native.Mathlib.Nat.{zero-lt-suc}
+use native.Mathlib.Nat.{zero-lt-suc, lt-suc-self, le-step}
 use native.Mathlib.Omega.{arith}
 use lib.Dec.{T, T-not, not-T, eqb, eqb→eq, eqb-refl, leb, leb→le}
 use lib.ListN.{length, getD}
 use Rattle.code.specs.Slope.{Slope, allowed-slope}
-use Rattle.code.specs.Tile.{tileLength, cell, line, sum, Good, On, EqualOutsideBoth, Fills}
-use Rattle.residue.specs.Test.{and-left, and-right, and-both, imp, imp-on, upTo, up-at, at-up}
-use Rattle.code.specs.OneLine.{number, through, Agree}
+use Rattle.code.specs.Tile.{tileLength, cell, line, sum, Good, On, EqualOutsideBoth, Differ, Fills}
+use Rattle.residue.specs.Test.{and-left, and-right, and-both, or-either, imp, imp-on, upTo, up-at, at-up}
+use Rattle.code.specs.Good.{named-twice}
+use Rattle.code.specs.OneLine.{number, rowAt, columnAt, through, Agree}
+use Rattle.code.specs.Differ.{differ-on}
 use Rattle.code.specs.Filling.{crossing-agrees, fills-either}
 use Rattle.code.specs.declared.Line.{Line}
 use Rattle.code.specs.declared.Line.the-variants.{Row, Column}
 use Rattle.size.specs.Shams.{size-5, at-5-2}
-use Rattle.promise.specs.Calls.{Explains, Unexplained, Has}
+use Rattle.promise.specs.Calls.{Explains, Unexplained, OneByte, MoreBytes, Has}
+use Rattle.promise.specs.Name.{in-more}
 use Rattle.promise.specs.Explain.{explains-fills, explains-has, explained}
 
 -- ---- tests
@@ -51,6 +54,17 @@ unless s t = record {
 -- a test b that has to pass where A holds, and does not: so A does not hold
 abbrev refuted : {A : Type 0} (b : Bool) → (A → T b) → Test (A → ⊥)
 refuted b f = record { pass = not b; shows = λ h a. T-not b h (f a) }
+
+-- a test that passes for some k below n
+unfoldable pub some : (P : ℕ → Type 0) (n : ℕ) → ((k : ℕ) → Test (P k)) → Test ((k : ℕ) × (k < n) × P k)
+some P zero t = never
+some P (suc n) t = record {
+  pass = t n .pass || some P n t .pass;
+  shows = λ h. or-either (t n .pass) (some P n t .pass) h (λ q. (n, lt-suc-self n, t n .shows q)) (λ q. later n (some P n t .shows q));
+}
+  where
+    later : (n : ℕ) → (k : ℕ) × (k < n) × P k → (k : ℕ) × (k < suc n) × P k
+    later n s = (s .0, le-step (s .1), s .2)
 
 -- a test that passes for each k below n
 abbrev pub below : (P : ℕ → Type 0) (n : ℕ) → ((k : ℕ) → Test (P k)) → Test ((k : ℕ) → k < n → P k)
@@ -147,6 +161,12 @@ outside a b x y =
     unless (on a i j) (unless (on b i j) (equal (cell 5 x i j) (cell 5 y i j))))))
     (λ t i j hi hj. t i hi j hj)
 
+-- two tiles differ in a cell
+unfoldable pub differing : (x y : List ℕ) (i j : ℕ) → Test (Differ 5 x y i j)
+differing x y i j =
+    so (both (both (at-most (suc i) 4) (at-most (suc j) 4)) (refuted (eqb (cell 5 x i j) (cell 5 y i j)) (equal-passes (cell 5 x i j) (cell 5 y i j))))
+    (λ t. record { row = t .0 .0; column = t .0 .1; bytes = t .1 })
+
 -- y is a filling of x in the lines a and b
 unfoldable pub filling : (a b : Line) (x y : List ℕ) → Test (Fills 5 2 a b x y)
 filling a b x y =
@@ -156,24 +176,39 @@ filling a b x y =
 abbrev pub explaining : (a : Line) (x y : List ℕ) → Test (Explains 5 2 a x y)
 explaining a x y = so (filling a a x y) (explains-fills 5 2 a x y .1)
 
+-- in two cells of the line a and in none outside it
+unfoldable pub more-bytes : (a : Line) (x y : List ℕ) → Test (MoreBytes 5 x y a)
+more-bytes a x y =
+    let Nth : ℕ → Type 0 = λ k. Differ 5 x y (rowAt a k) (columnAt a k) in
+    let nth : (k : ℕ) → Test (Nth k) = λ k. differing x y (rowAt a k) (columnAt a k) in
+    so (both (outside a a x y) (some (λ k. Nth k × ((m : ℕ) × (m < k) × Nth m)) 4 (λ k. both (nth k) (some Nth k nth)))) (λ t.
+    let two = t .1 .2 in in-more 5 a x y (named-twice 5 a x y .1 (t .0)) (t .1 .0) (two .1 .0) (omega (arith, two .1 .1)) (two .0) (two .1 .2))
+
+-- in one cell alone: they agree outside its column, and outside its row
+unfoldable pub one-byte : (x y : List ℕ) (i j : ℕ) → Test (OneByte 5 x y i j)
+one-byte x y i j =
+    so (both (differing x y i j) (both (outside (Row i) (Row i) x y) (outside (Column j) (Column j) x y))) (λ t. record {
+      here = t .0;
+      alone = λ r k d. (
+        differ-on 5 (Row i) x y .0 (named-twice 5 (Row i) x y .1 (t .1 .0)) r k d,
+        differ-on 5 (Column j) x y .0 (named-twice 5 (Column j) x y .1 (t .1 .1)) r k d,
+      );
+    })
+
 -- what holds of every column and of every row holds of every line
 pub each-line : (P : Line → Type 0) → ((k : ℕ) → P (Column k)) → ((k : ℕ) → P (Row k)) → (a : Line) → P a
 each-line P f g (Column c) = f c
 each-line P f g (Row r) = g r
 
--- none of the first n lines f 0, f 1, .. explains a tile that is not good: along each the sums disagree
-unfoldable pub none-of : (f : ℕ → Line) (n : ℕ) (x : List ℕ) → Test ((Good 5 2 x → ⊥) → (k : ℕ) → k < n → Unexplained 5 2 x (f k))
-none-of f n x =
-    so (below (λ k. Agree 5 2 (sumOf x 1) (sumOf x 2) (f k) → ⊥) n (λ k.
+-- none of the lines f 0, f 1, .. explains a tile that is not good: along the four that it has the sums disagree
+unfoldable pub none : (f : ℕ → Line) → ((k : ℕ) → number (f k) ≡ k) → (x : List ℕ)
+    → Test ((Good 5 2 x → ⊥) → (k : ℕ) → Unexplained 5 2 x (f k))
+none f numbered x =
+    so (below (λ k. Agree 5 2 (sumOf x 1) (sumOf x 2) (f k) → ⊥) 4 (λ k.
     let A : ℕ → ℕ = λ i. sumOf x 1 (through 5 1 (f k) i) in
     let B : ℕ → ℕ = λ i. sumOf x 2 (through 5 2 (f k) i) in
     refuted (equals A B 5 .pass) (equals-pass A B 5)))
-    (λ t bad k h y e. t k h (explained 5 2 (f k) x slope-5-2 (explains-has 5 2 (f k) x y bad e) .0 (y, e)))
-
--- .. and none at all, as the tile has no more than 4
-unfoldable pub none : (f : ℕ → Line) → ((k : ℕ) → number (f k) ≡ k) → (x : List ℕ)
-    → Test ((Good 5 2 x → ⊥) → (k : ℕ) → Unexplained 5 2 x (f k))
-none f numbered x = so (none-of f 4 x) (λ t bad k y e. t bad k (omega (arith, explains-has 5 2 (f k) x y bad e, numbered k)) y e)
+    (λ t bad k y e. let has = explains-has 5 2 (f k) x y bad e in t k (omega (arith, has, numbered k)) (explained 5 2 (f k) x slope-5-2 has .0 (y, e)))
 
 -- no line at all does
 unfoldable pub no-line : (x : List ℕ) → Test ((Good 5 2 x → ⊥) → (a : Line) → Unexplained 5 2 x a)

@@ -1,21 +1,25 @@
 -- What it tells that a line explains a tile: a good tile agrees with that tile outside the line. Assumes nothing.
-use mathlib.Core.Path.{_≡_, refl, sym}
-use mathlib.Core.Logic.{_↔_, inl}
+use mathlib.Core.Path.{_≡_, refl, sym, ap, _∙_}
+use mathlib.Core.Logic.{_⊎_, inl, _↔_}
 use mathlib.Core.List.{List}
 use Prim.Native.Nat.{ℕ, _+_, _-_, _≤_, _<_}
 use native.Mathlib.Omega.{arith, by-contra}
 use lib.ListN.{length}
+use Rattle.residue.specs.Power.{ReachesAll}
 use Rattle.code.specs.Slope.{Slope}
 use Rattle.code.specs.Tile.{tileLength, cell, sum, Good, On, Fills}
 use Rattle.code.specs.Sums.{one-sum-ext}
 use Rattle.code.specs.Place.{cell-padded, same-within}
 use Rattle.code.specs.Good.{named-twice}
 use Rattle.code.specs.OneLine.{number, Agree}
-use Rattle.code.specs.Distance.{Parallel}
-use Rattle.code.specs.Filling.{filled-once, line-agrees, line-filled}
+use Rattle.code.specs.Differ.{agree-at}
+use Rattle.code.specs.Distance.{Parallel, equal-tiles}
+use Rattle.code.specs.Filling.{line-agrees, line-filled}
 use Rattle.code.specs.declared.Line.{Line}
 use Rattle.code.specs.declared.Line.the-variants.{Row, Column}
-use Rattle.promise.specs.Calls.{Explains, Unexplained, Has}
+use Rattle.promise.specs.Answer.{Said}
+use Rattle.promise.specs.Calls.{Explains, Unexplained, Named, Has}
+use Rattle.promise.specs.Name.{named-differ, has-name}
 
 -- to explain a tile by a line is to fill that line, named twice
 pub explains-fills : (p l : ℕ) (a : Line) (x y : List ℕ) → Explains p l a x y ↔ Fills p l a a x y
@@ -37,10 +41,21 @@ parallel-self : (a : Line) → Parallel a a
 parallel-self (Row r) = tt
 parallel-self (Column c) = tt
 
--- by one line a tile is explained by one good tile at most
-pub explains-once : (p l : ℕ) (a : Line) (x y z : List ℕ) → Slope p l → Explains p l a x y → Explains p l a x z → y ≡ z
-explains-once p l a x y z S e f =
-    filled-once p l a a x y z S (inl (parallel-self a)) (explains-fills p l a x y .0 e) (explains-fills p l a x z .0 f)
+-- two lines explain a tile by one good tile, if they are parallel or the slope reaches all: the two good tiles agree outside both
+pub explains-once : (p l : ℕ) (a b : Line) (x y z : List ℕ) → Slope p l → (Parallel a b) ⊎ (ReachesAll p l) → Explains p l a x y → Explains p l b x z → y ≡ z
+explains-once p l a b x y z S h e f =
+    equal-tiles p l a b y z S h (e .size) (f .size) (e .good) (f .good) (λ i j hi hj d q. sym (e .same i j hi hj d) ∙ f .same i j hi hj q)
+
+-- so a tile that differs from the one by which a line explains it is not good: else it would explain itself
+pub named-hurt : (p l : ℕ) (a : Line) (x y : List ℕ) {s : Said} → Slope p l → length x ≡ tileLength p → Explains p l a x y → Named p x y s → Good p l x → ⊥
+named-hurt p l a x y S size e n g =
+    let d = named-differ n in
+    d .2 .bytes (ap (λ (z : List ℕ). cell p z (d .0) (d .1)) (explains-once p l a a x x y S (inl (parallel-self a)) (good-explains p l a x size g) e))
+
+-- a tile with the cells of a good one is good
+pub same-good : (p l : ℕ) (x y : List ℕ) → ((i j : ℕ) → i < p - 1 → j < p - 1 → cell p x i j ≡ cell p y i j) → Good p l y → Good p l x
+same-good p l x y same g =
+    one-sum-ext p l (cell p y) (cell p x) (same-within p (cell p y) (cell p x) (cell-padded p y) (cell-padded p x) (λ i j hi hj. sym (same i j hi hj))) g
 
 -- a line that the tile does not have holds no cell of it ..
 on-has : (p : ℕ) (a : Line) (i j : ℕ) → i < p - 1 → j < p - 1 → On a i j → number a + 2 ≤ p
@@ -49,10 +64,12 @@ on-has p (Column c) i j hi hj e = omega arith
 
 -- .. so it explains only a tile that is good already: the good tile has the same cells
 pub explains-has : (p l : ℕ) (a : Line) (x y : List ℕ) → (Good p l x → ⊥) → Explains p l a x y → Has p a
-explains-has p l a x y bad e = by-contra (number a + 2) p (λ h. bad (one-sum-ext p l (cell p y) (cell p x)
-    (same-within p (cell p y) (cell p x) (cell-padded p y) (cell-padded p x) (λ i j hi hj.
-    sym (e .same i j hi hj (λ o. omega (arith, on-has p a i j hi hj o)))))
-    (e .good)))
+explains-has p l a x y bad e = by-contra (number a + 2) p (λ h.
+    bad (same-good p l x y (λ i j hi hj. e .same i j hi hj (λ o. omega (arith, on-has p a i j hi hj o))) (e .good)))
+
+-- and where a line explains a tile that is not good, the difference has a name
+pub explains-named : (p l : ℕ) (a : Line) (x y : List ℕ) → (Good p l x → ⊥) → Explains p l a x y → (s : Said) × Named p x y s
+explains-named p l a x y bad e = has-name p a x y (e .same) (λ none. bad (same-good p l x y (λ i j hi hj. agree-at p x y i j hi hj (none i j)) (e .good)))
 
 -- a line that the tile has explains it exactly if the sums of both slopes agree along the line
 pub explained : (p l : ℕ) (a : Line) (x : List ℕ) → Slope p l → Has p a

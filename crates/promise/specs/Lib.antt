@@ -2,8 +2,10 @@
 pub mod Answer
 pub mod Calls
 pub mod Admit
+pub mod Name
 pub mod Explain
 pub mod Once
+pub mod Earlier
 pub mod Promise
 pub mod Carry
 pub mod Decide

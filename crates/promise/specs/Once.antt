@@ -2,25 +2,25 @@
 use mathlib.Core.Path.{_≡_, refl, sym, ap, _∙_}
 use mathlib.Core.Logic.{inr}
 use mathlib.Core.List.{List}
-use Prim.Native.Nat.{ℕ, _<_}
-use native.Mathlib.Nat.{le-antisymm}
-use native.Mathlib.Omega.{by-contra}
+use Prim.Native.Nat.{ℕ}
+use Rattle.residue.specs.Power.{ReachesAll}
 use Rattle.residue.specs.Size.{Size, Allowed}
 use Rattle.code.specs.Slope.{Slope, allowed-slope}
 use Rattle.code.specs.Tile.{tileLength, Good, textOf, Writes, Fills}
 use Rattle.code.specs.Filling.{filled-once}
 use Rattle.code.specs.Writing.{written-once}
 use Rattle.code.specs.declared.Line.{Line}
-use Rattle.code.specs.declared.Line.the-variants.{Row, Column}
+use Rattle.code.specs.declared.Line.the-variants.{Column}
 use Rattle.size.specs.Answer as size
 use Rattle.size.specs.Answer.{judgementSaid}
 use Rattle.size.specs.Refusal.{numberOf}
-use Rattle.size.specs.Once.{number-once, judgement-said-once}
+use Rattle.size.specs.Once.{refusalOf, back, number-once, judgement-said-once}
 use Rattle.size.specs.declared.Judgement.{Judgement}
-use Rattle.promise.specs.Answer.{Said, done, clean, column, row, refused, outcomeSaid, repairSaid}
-use Rattle.promise.specs.Calls.{Admitted, TileLength, BothLengths, WriteTold, ReadTold, Explains, Unexplained, RepairTold, Has, FillTold}
-use Rattle.promise.specs.Admit.{admitted-well, admitted-no, admitted-once}
-use Rattle.promise.specs.Explain.{unexplained-hurt, explains-once}
+use Rattle.promise.specs.Answer.{Said, done, clean, cell, column, row, refused, outcomeSaid, repairSaid}
+use Rattle.promise.specs.Calls.{Admitted, TileLength, BothLengths, WriteTold, ReadTold, Explains, Named, RepairTold, Has, FillTold}
+use Rattle.promise.specs.Admit.{admitted-well, admitted-no, admitted-once, slope-of}
+use Rattle.promise.specs.Name.{named-once}
+use Rattle.promise.specs.Explain.{unexplained-hurt, explains-once, named-hurt}
 use Rattle.promise.specs.declared.Outcome.{Outcome}
 use Rattle.promise.specs.declared.Outcome.the-variants as outcome
 use Rattle.promise.specs.declared.Repaired.{Repaired}
@@ -118,45 +118,38 @@ module _ (p l : ℕ) (tile text : List ℕ) where
   read-told-once a b x y t u =
       call-once (read-call t) (read-call u) (λ S w. else-single (λ g. just-single done (textOf p tile)) (just-single (refused 5) text))
 
--- repair: of a good tile Clean, and else by the first column that explains it, by the first row, or 5
+-- repair: of a good tile Clean; of one that some line explains the name of the difference; else 5
 module _ (p l : ℕ) (tile : List ℕ) where
-  -- one of the lines f 0, f 1, .. explains it
-  abbrev Some : (ℕ → Line) → Type 0
-  Some f = (k : ℕ) × (y : List ℕ) × Explains p l (f k) tile y
+  -- some line explains it
+  abbrev Explained : Type 0
+  Explained = (a : Line) × (y : List ℕ) × Explains p l a tile y
 
-  -- the outcome by the first that does ..
-  data First (f : ℕ → Line) (say : ℕ → Said) : Said → List ℕ → Type 0 where
-    first : {k : ℕ} {y : List ℕ} → Explains p l (f k) tile y → ((j : ℕ) → j < k → Unexplained p l tile (f j)) → First f say (say k) y
+  -- the good tile by which one does, and the name of the difference ..
+  data Mended : Said → List ℕ → Type 0 where
+    mended : {a : Line} {s : Said} {y : List ℕ} → Explains p l a tile y → Named p tile y s → Mended s y
 
-  -- .. is one: of two that are first neither comes before the other
-  first-single : (f : ℕ → Line) (say : ℕ → Said) → Slope p l → Single (First f say)
-  first-single f say S a b x y (first {k = j} e u) (first {k} d v) =
-      let q : j ≡ k = le-antisymm (by-contra j k (λ h. u k h y d)) (by-contra k j (λ h. v j h x e)) in
-      (ap say q, explains-once p l (f k) tile x y S (rw q at e) d)
+  -- .. are one outcome: by the distance there is one such tile, and a difference has one name
+  mended-single : Slope p l → ReachesAll p l → Single Mended
+  mended-single S all s t x y (mended {a} e n) (mended {a = b} f m) =
+      let q : x ≡ y = explains-once p l a b tile x y S (inr all) e f in (named-once (rw q at n) m, q)
 
   -- its own outcomes
   abbrev RepairOwn : Said → List ℕ → Type 0
-  RepairOwn =
-      Else (Good p l tile) (Just clean tile)
-      (Else (Some Column) (First Column column) (Else (Some Row) (First Row row) (Just (refused 5) tile)))
+  RepairOwn = Else (Good p l tile) (Just clean tile) (Else Explained Mended (Just (refused 5) tile))
 
-  -- a repair, as such a call; where a line does not explain the tile it is not good
+  -- a repair, as such a call
   repair-call : {a : Said} {x : List ℕ} → RepairTold p l tile a x → Call p l (TileLength p tile) tile RepairOwn a x
   repair-call (RepairTold.refuses h) = refuses h
   repair-call (RepairTold.is-good h g) = goes-on h (holds g (refl, refl))
-  repair-call (RepairTold.by-column {c} {new} h f e u) = goes-on h (fails f (holds (c, new, e) (first e u)))
-  repair-call (RepairTold.by-row {r} {new} h f e u) =
-      goes-on h (fails (unexplained-hurt p l (Column 0) tile (admitted-well h .2) (f 0))
-      (fails (λ t. f (t .0) (t .1) (t .2)) (holds (r, new, e) (first e u))))
+  repair-call (RepairTold.mends {a} {new} h e n) =
+      goes-on h (fails (named-hurt p l a tile new (slope-of h) (admitted-well h .2) e n) (holds (a, new, e) (mended e n)))
   repair-call (RepairTold.by-none h f) =
-      goes-on h (fails (unexplained-hurt p l (Column 0) tile (admitted-well h .2) (f (Column 0)))
-      (fails (λ t. f (Column (t .0)) (t .1) (t .2)) (fails (λ t. f (Row (t .0)) (t .1) (t .2)) (refl, refl))))
+      goes-on h (fails (unexplained-hurt p l (Column 0) tile (admitted-well h .2) (f (Column 0))) (fails (λ t. f (t .0) (t .1) (t .2)) (refl, refl)))
 
   -- so two outcomes of a repair are the same
   pub repair-told-once : (a b : Said) (x y : List ℕ) → RepairTold p l tile a x → RepairTold p l tile b y → (a ≡ b) × (x ≡ y)
   repair-told-once a b x y t u = call-once (repair-call t) (repair-call u) (λ S w.
-      else-single (λ g. just-single clean tile)
-      (else-single (λ e. first-single Column column S) (else-single (λ e. first-single Row row S) (just-single (refused 5) tile))))
+      else-single (λ g. just-single clean tile) (else-single (λ e. mended-single S (w .reach)) (just-single (refused 5) tile)))
 
 -- fill: 4 where the tile lacks a line, and else the filling, or 5
 module _ (p l : ℕ) (tile : List ℕ) (a b : Line) where
@@ -189,24 +182,24 @@ outcome-said-once outcome.Done (outcome.Refused s) e = cc
 outcome-said-once (outcome.Refused r) outcome.Done e = cc
 outcome-said-once (outcome.Refused r) (outcome.Refused s) e = let n : numberOf r ≡ numberOf s = cc in ap outcome.Refused (number-once r s n)
 
--- .. and one of repair
+-- .. and one of repair: the one that says s (`done` is no answer of repair) says it
+abbrev answerOf : Said → Repaired
+answerOf done = repair.Clean
+answerOf clean = repair.Clean
+answerOf (cell r c) = repair.Cell r c
+answerOf (column c) = repair.Column c
+answerOf (row r) = repair.Row r
+answerOf (refused n) = repair.Refused (refusalOf n)
+
+answer-back : (a : Repaired) → answerOf (repairSaid a) ≡ a
+answer-back repair.Clean = refl
+answer-back (repair.Cell r c) = refl
+answer-back (repair.Column c) = refl
+answer-back (repair.Row r) = refl
+answer-back (repair.Refused r) = ap repair.Refused (back r)
+
 repair-said-once : (a b : Repaired) → repairSaid a ≡ repairSaid b → a ≡ b
-repair-said-once repair.Clean repair.Clean e = refl
-repair-said-once repair.Clean (repair.Column d) e = cc
-repair-said-once repair.Clean (repair.Row s) e = cc
-repair-said-once repair.Clean (repair.Refused s) e = cc
-repair-said-once (repair.Column c) repair.Clean e = cc
-repair-said-once (repair.Column c) (repair.Column d) e = cc
-repair-said-once (repair.Column c) (repair.Row s) e = cc
-repair-said-once (repair.Column c) (repair.Refused s) e = cc
-repair-said-once (repair.Row r) repair.Clean e = cc
-repair-said-once (repair.Row r) (repair.Column d) e = cc
-repair-said-once (repair.Row r) (repair.Row s) e = cc
-repair-said-once (repair.Row r) (repair.Refused s) e = cc
-repair-said-once (repair.Refused r) repair.Clean e = cc
-repair-said-once (repair.Refused r) (repair.Column d) e = cc
-repair-said-once (repair.Refused r) (repair.Row s) e = cc
-repair-said-once (repair.Refused r) (repair.Refused s) e = let n : numberOf r ≡ numberOf s = cc in ap repair.Refused (number-once r s n)
+repair-said-once a b e = sym (answer-back a) ∙ ap answerOf e ∙ answer-back b
 
 -- so where one outcome is allowed, one answer is right
 outcome-single : (R : Said → List ℕ → Type 0) → Single R → (a b : Outcome) (x y : List ℕ) → R (outcomeSaid a) x → R (outcomeSaid b) y

@@ -1,23 +1,23 @@
 -- WHAT THE PROMISES MEAN FOR A USER: what was written is read again, one hurt line is repaired, flagged lines are filled, and a call that
 -- refuses changes no byte; for every size and slope. Assumes nothing.
-use mathlib.Core.Path.{_≡_, refl, sym, ap, _∙_}
-use mathlib.Core.Logic.{_≢_}
+use mathlib.Core.Path.{_≡_, refl, sym, _∙_}
+use mathlib.Core.Logic.{_≢_, inr}
 use mathlib.Core.List.{List}
-use Prim.Native.Nat.{ℕ, _+_, _-_, _≤_, _<_}
+use Prim.Native.Nat.{ℕ, _+_, _≤_}
 use native.Mathlib.Omega.{arith}
 use lib.ListN.{length}
 use Rattle.residue.specs.Size.{Size, Allowed}
 use Rattle.code.specs.Slope.{allowed-slope}
-use Rattle.code.specs.Tile.{tileLength, cell, textLength, Good, textOf, On, EqualOutside, EqualOutsideBoth, Fills}
+use Rattle.code.specs.Tile.{tileLength, textLength, Good, textOf, EqualOutside, EqualOutsideBoth, Fills}
 use Rattle.code.specs.OneLine.{number}
-use Rattle.code.specs.Distance.{Parallel, distance}
+use Rattle.code.specs.Distance.{Parallel}
 use Rattle.code.specs.Filling.{parallel-filled}
 use Rattle.code.specs.declared.Line.{Line}
-use Rattle.code.specs.declared.Line.the-variants.{Row, Column}
-use Rattle.promise.specs.Answer.{Said, done, clean, column, row, refused}
-use Rattle.promise.specs.Calls.{WriteTold, ReadTold, Explains, RepairTold, Has, FillTold}
+use Rattle.promise.specs.Answer.{Said, done, clean, cell, column, row, refused}
+use Rattle.promise.specs.Calls.{WriteTold, ReadTold, Explains, Named, RepairTold, Has, FillTold}
 use Rattle.promise.specs.Admit.{admits, admitted-well, admitted-no}
-use Rattle.promise.specs.Explain.{good-explains, unexplained-hurt, explains-has}
+use Rattle.promise.specs.Name.{named-line, named-in}
+use Rattle.promise.specs.Explain.{good-explains, explains-once}
 use Rattle.promise.specs.Once.{read-told-once, repair-told-once, fill-told-once}
 
 -- a tile that was written is read, and what is read is the text that was written
@@ -35,61 +35,48 @@ pub repair-good : (p l : ℕ) (tile : List ℕ) (said : Said) (new : List ℕ) �
     → RepairTold p l tile said new → (said ≡ clean) × (new ≡ tile)
 repair-good p l tile said new s w e g t = repair-told-once p l tile said clean new tile t (RepairTold.is-good (admits s w e) g)
 
--- of a tile that differs from the good tile x within the line a ..
-module _ (p l : ℕ) (a : Line) (x tile : List ℕ) (ex : length x ≡ tileLength p) (g : Good p l x) (same : EqualOutside p a x tile) where
-  -- .. x explains it
-  itself : Explains p l a tile x
-  itself = record { size = ex; good = g; same = λ i j hi hj d. sym (same i j hi hj d) }
+-- a good tile x with changes in one line explains what it became by that line
+itself : (p l : ℕ) (a : Line) (x tile : List ℕ) → length x ≡ tileLength p → Good p l x → EqualOutside p a x tile → Explains p l a tile x
+itself p l a x tile e g same = record { size = e; good = g; same = λ i j hi hj d. sym (same i j hi hj d) }
 
-  -- .. and no other tile does, by whatever line: it would agree with x outside two lines
-  no-other : Size p → Allowed p l → (b : Line) (y : List ℕ) → Explains p l b tile y → y ≡ x
-  no-other s w b y f = distance p l a b y x s w (f .size) ex (f .good) g (λ i j hi hj d q. sym (f .same i j hi hj q) ∙ sym (same i j hi hj d))
-
--- a good tile with one line changed is repaired to itself, and never refused
+-- so it is repaired to itself, and never refused
 pub repair-one-line : (p l : ℕ) (a : Line) (x tile : List ℕ) (said : Said) (new : List ℕ) → Size p → Allowed p l
     → length x ≡ tileLength p → length tile ≡ tileLength p → Good p l x → EqualOutside p a x tile
     → RepairTold p l tile said new → (new ≡ x) × ((n : ℕ) → said ≡ refused n → ⊥)
 repair-one-line p l a x tile said new s w ex e g same told = (repaired told, λ n q. not-refused (rw q at told))
   where
+    -- by whatever line it is explained, it is by x
     known : (b : Line) (y : List ℕ) → Explains p l b tile y → y ≡ x
-    known = no-other p l a x tile ex g same s w
+    known b y f = explains-once p l b a tile y x (allowed-slope p l s w) (inr (w .reach)) f (itself p l a x tile ex g same)
 
     repaired : {said : Said} {new : List ℕ} → RepairTold p l tile said new → new ≡ x
     repaired (RepairTold.refuses h) = absurd (admitted-no h (s, w, e))
     repaired (RepairTold.is-good h f) = known a tile (good-explains p l a tile e f)
-    repaired (RepairTold.by-column {c} {new} h f q u) = known (Column c) new q
-    repaired (RepairTold.by-row {r} {new} h f q u) = known (Row r) new q
+    repaired (RepairTold.mends {a = b} {new} h f n) = known b new f
     repaired (RepairTold.by-none h f) = absurd (f a x (itself p l a x tile ex g same))
 
     not-refused : {n : ℕ} {new : List ℕ} → RepairTold p l tile (refused n) new → ⊥
     not-refused (RepairTold.refuses h) = admitted-no h (s, w, e)
+    not-refused (RepairTold.mends h f n) = named-in n
     not-refused (RepairTold.by-none h f) = f a x (itself p l a x tile ex g same)
 
--- a tile of which one cell is hurt is answered by the column of that cell, though its row explains it too
-pub repair-one-cell : (p l i c : ℕ) (x tile : List ℕ) (said : Said) (new : List ℕ) → Size p → Allowed p l
-    → length x ≡ tileLength p → length tile ≡ tileLength p → Good p l x → i < p - 1 → c < p - 1 → cell p tile i c ≢ cell p x i c
-    → ((r k : ℕ) → r < p - 1 → k < p - 1 → ((r ≡ i) × (k ≡ c) → ⊥) → cell p x r k ≡ cell p tile r k)
-    → RepairTold p l tile said new → (said ≡ column c) × (new ≡ x)
-repair-one-cell p l i c x tile said new s w ex e g hi hc hurt same told =
-    repair-told-once p l tile said (column c) new x told
-    (RepairTold.by-column (admits s w e) (λ f. differs (Row (p - 1)) tile (good-explains p l (Row (p - 1)) tile e f) (omega arith))
-    (itself p l (Column c) x tile ex g outside) (λ k h y f. differs (Column k) y f (omega arith)))
-  where
-    outside : EqualOutside p (Column c) x tile
-    outside r k hr hk d = same r k hr hk (λ q. d (q .1))
+-- THE NAME of what happened to a good tile is the answer: the cell where one byte was changed, the line where more bytes of one line were
+pub repair-named : (p l : ℕ) (x tile : List ℕ) (name said : Said) (new : List ℕ) → Size p → Allowed p l
+    → length x ≡ tileLength p → length tile ≡ tileLength p → Good p l x → Named p tile x name
+    → RepairTold p l tile said new → (said ≡ name) × (new ≡ x)
+repair-named p l x tile name said new s w ex e g n told =
+    let a = named-line n in
+    repair-told-once p l tile said name new x told (RepairTold.mends {a = a .0} (admits s w e) (record { size = ex; good = g; same = a .1 }) n)
 
-    -- a line that the cell is not on does not explain it
-    differs : (a : Line) (y : List ℕ) → Explains p l a tile y → (On a i c → ⊥) → ⊥
-    differs a y f off = hurt (f .same i c hi hc off ∙ ap (λ (z : List ℕ). cell p z i c) (no-other p l (Column c) x tile ex g outside s w a y f))
+-- the cell or the line that repair names is one of the tile's
+pub cell-within : {p l r c : ℕ} {tile new : List ℕ} → RepairTold p l tile (cell r c) new → (r + 2 ≤ p) × (c + 2 ≤ p)
+cell-within (RepairTold.mends h e n) = named-in n
 
--- the line that repair names is one of the tile's
-pub column-within : {p l c : ℕ} {tile new : List ℕ} → RepairTold p l tile (column c) new → (c + 2 ≤ p) × (p ≤ 257)
-column-within {p} {l} {c} {tile} {new} (RepairTold.by-column h bad e first) = (explains-has p l (Column c) tile new bad e, admitted-well h .0 .high)
+pub column-within : {p l c : ℕ} {tile new : List ℕ} → RepairTold p l tile (column c) new → c + 2 ≤ p
+column-within (RepairTold.mends h e n) = named-in n
 
-pub row-within : {p l r : ℕ} {tile new : List ℕ} → RepairTold p l tile (row r) new → (r + 2 ≤ p) × (p ≤ 257)
-row-within {p} {l} {r} {tile} {new} (RepairTold.by-row h none e first) =
-    let w = admitted-well h in
-    (explains-has p l (Row r) tile new (unexplained-hurt p l (Column 0) tile (w .2) (none 0)) e, w .0 .high)
+pub row-within : {p l r : ℕ} {tile new : List ℕ} → RepairTold p l tile (row r) new → r + 2 ≤ p
+row-within (RepairTold.mends h e n) = named-in n
 
 -- ---- fill
 
@@ -144,6 +131,7 @@ read-refused (ReadTold.not-good h f) = refl
 -- a refused repair leaves the tile
 pub repair-refused : {p l n : ℕ} {tile new : List ℕ} → RepairTold p l tile (refused n) new → new ≡ tile
 repair-refused (RepairTold.refuses h) = refl
+repair-refused (RepairTold.mends h e n) = absurd (named-in n)
 repair-refused (RepairTold.by-none h f) = refl
 
 -- a refused filling leaves the tile

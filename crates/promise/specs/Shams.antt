@@ -5,12 +5,14 @@ use Prim.Native.Nat.{ℕ}
 use native.Mathlib.Omega.{arith}
 use lib.ListN.{length}
 use Rattle.code.specs.Tile.{tileLength, textLength}
+use Rattle.code.specs.declared.Line.{Line}
 use Rattle.code.specs.declared.Line.the-variants.{Row, Column}
 use Rattle.size.specs.Answer as size
 use Rattle.size.specs.Shams.{size-5, at-5-2}
-use Rattle.promise.specs.Answer.{Said, done, clean, column, row, refused}
-use Rattle.promise.specs.Calls.{Admitted, judged, WriteTold, ReadTold, RepairTold, FillTold}
+use Rattle.promise.specs.Answer.{Said, done, clean, cell, column, refused}
+use Rattle.promise.specs.Calls.{Admitted, judged, WriteTold, ReadTold, OneByte, MoreBytes, by-cell, by-column, by-row, RepairTold, FillTold}
 use Rattle.promise.specs.Admit.{admitted-well, admitted-no}
+use Rattle.promise.specs.Name.{lineSaid, one-or-more}
 use Rattle.promise.specs.Once.{repair-told-once}
 use Rattle.promise.specs.Promise.{read-after-write, write-refused}
 use Rattle.promise.specs.Worked.{Exactly, claimed, other-claimed, zeros, text-1, tile-1, text-2, tile-2, tile-4, tile-9, tile-10, copied-1, hurt-2}
@@ -33,9 +35,18 @@ repair-says-5 = wrong-answer (RepairTold 5 2 tile-4) (claimed 4) (refused 5) til
 pub repair-says-clean : RepairTold 5 2 tile-4 clean tile-4 → ⊥
 repair-says-clean = wrong-answer (RepairTold 5 2 tile-4) (claimed 4) clean tile-4 (λ e. cc)
 
--- a repair that tries rows before columns
-pub rows-first : RepairTold 5 2 tile-4 (row 2) zeros → ⊥
-rows-first = wrong-answer (RepairTold 5 2 tile-4) (claimed 4) (row 2) zeros (λ e. cc)
+-- a repair that still says the column of a lone byte, or its row: of any tile, at any size and slope
+pub line-of-cell : {p l i j : ℕ} {tile new : List ℕ} (a : Line) → OneByte p tile new i j → RepairTold p l tile (lineSaid a) new → ⊥
+line-of-cell (Row r) o (RepairTold.mends h e (by-row m)) = one-or-more o m
+line-of-cell (Column c) o (RepairTold.mends h e (by-column m)) = one-or-more o m
+
+-- one that says a cell where two bytes of a line differ
+pub cell-of-two : {p l i j : ℕ} {tile new : List ℕ} {a : Line} → MoreBytes p tile new a → RepairTold p l tile (cell i j) new → ⊥
+cell-of-two m (RepairTold.mends h e (by-cell o)) = one-or-more o m
+
+-- one that exchanges the row and the column
+pub cell-exchanged : {p l i j : ℕ} {tile new : List ℕ} → OneByte p tile new i j → (i ≡ j → ⊥) → RepairTold p l tile (cell j i) new → ⊥
+cell-exchanged o other (RepairTold.mends h e (by-cell q)) = other (q .alone _ _ (o .here) .0)
 
 -- a repair that names column 0 where nothing is hurt
 pub undamaged-column-0 : RepairTold 5 2 zeros (column 0) zeros → ⊥
@@ -45,9 +56,9 @@ undamaged-column-0 = wrong-answer (RepairTold 5 2 zeros) (other-claimed 3) (colu
 pub repair-even-sums : (said : Said) (new : List ℕ) → (said ≡ clean → ⊥) → RepairTold 5 2 tile-2 said new → ⊥
 repair-even-sums said new d r = d (other-claimed 4 .1 said new r .0)
 
--- a repair that changes tile 2's column 0 by its shifted sums, and leaves the common byte 1 in them
-pub common-byte-left : RepairTold 5 2 hurt-2 (column 0) (1 ∷ 1 ∷ 1 ∷ 1 ∷ 0 ∷ 0 ∷ 0 ∷ 1 ∷ 1 ∷ 1 ∷ 1 ∷ 0 ∷ 0 ∷ 1 ∷ 1 ∷ 1 ∷ []) → ⊥
-common-byte-left = wrong-bytes (RepairTold 5 2 hurt-2) (other-claimed 5) (column 0) _ (λ e. cc)
+-- a repair that changes tile 2's column 0 by its shifted sums, and leaves the common byte 1 in them, whatever it says
+pub common-byte-left : (said : Said) → RepairTold 5 2 hurt-2 said (1 ∷ 1 ∷ 1 ∷ 1 ∷ 0 ∷ 0 ∷ 0 ∷ 1 ∷ 1 ∷ 1 ∷ 1 ∷ 0 ∷ 0 ∷ 1 ∷ 1 ∷ 1 ∷ []) → ⊥
+common-byte-left said = wrong-bytes (RepairTold 5 2 hurt-2) (other-claimed 5) said _ (λ e. cc)
 
 -- ---- fill
 

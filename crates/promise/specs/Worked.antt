@@ -1,7 +1,7 @@
 -- SPEC 10: the worked tiles 1 to 10 in one list, all claimed at once (tile 11, whose sheet stands above this crate, joins them in
 -- `sheet/specs/Worked.antt`). The tiles are at p 5, l 2, written row by row; each claim is decided by a test that is computed, and the
 -- laws that the test is right. Assumes nothing.
-use mathlib.Core.Path.{_≡_, refl, sym, ap, _∙_}
+use mathlib.Core.Path.{_≡_, sym, ap, _∙_}
 use mathlib.Core.List.{List, [], _∷_}
 use Prim.Native.Nat.{ℕ, _+_, _-_}
 use lib.ListN.{length, getD}
@@ -17,10 +17,10 @@ use Rattle.code.specs.declared.Line.the-variants.{Row, Column}
 use Rattle.size.specs.Answer as size
 use Rattle.size.specs.Shams.{size-5, at-5-2}
 use Rattle.promise.specs.Answer.{Said, done, clean, column, row, refused}
-use Rattle.promise.specs.Calls.{Admitted, TileLength, WriteTold, ReadTold, RepairTold, FillTold}
+use Rattle.promise.specs.Calls.{Admitted, TileLength, WriteTold, ReadTold, by-cell, by-column, by-row, RepairTold, FillTold}
 use Rattle.promise.specs.Admit.{admits}
 use Rattle.promise.specs.Once.{Single, write-told-once, read-told-once, repair-told-once, fill-told-once}
-use Rattle.promise.specs.Decide.{Test, never, so, both, equal, at-most, same, sumOf, good, common-is, not-good, outside, filling, explaining, none-of, none, no-line, uncrossed, no-filling, Each, each, numbered}
+use Rattle.promise.specs.Decide.{Test, never, so, both, some, equal, at-most, same, sumOf, good, common-is, not-good, outside, differing, filling, explaining, more-bytes, one-byte, none, no-line, uncrossed, no-filling, Each, each, numbered}
 
 -- ---- the tiles
 
@@ -49,7 +49,7 @@ text-3 = 1 ∷ 2 ∷ 2 ∷ 0 ∷ 0 ∷ 2 ∷ 2 ∷ 2 ∷ []
 abbrev pub tile-3 : List ℕ
 tile-3 = 1 ∷ 2 ∷ 2 ∷ 3 ∷ 2 ∷ 0 ∷ 1 ∷ 3 ∷ 0 ∷ 2 ∷ 3 ∷ 0 ∷ 2 ∷ 2 ∷ 3 ∷ 2 ∷ []
 
--- SPEC 10, tile 4: a 1 in cell (2, 3) alone; repair answers column 3 and leaves zeros
+-- SPEC 10, tile 4: a 1 in cell (2, 3) alone; repair answers cell 2 3 and leaves zeros
 abbrev pub tile-4 : List ℕ
 tile-4 = 0 ∷ 0 ∷ 0 ∷ 0 ∷ 0 ∷ 0 ∷ 0 ∷ 0 ∷ 0 ∷ 0 ∷ 0 ∷ 1 ∷ 0 ∷ 0 ∷ 0 ∷ 0 ∷ []
 
@@ -126,7 +126,7 @@ cases =
     writes text-1 tile-1 0
     ∷ writes text-2 tile-2 1
     ∷ writes text-3 tile-3 2
-    ∷ repairs tile-4 (column 3) zeros
+    ∷ repairs tile-4 (Said.cell 2 3) zeros
     ∷ repairs tile-5 (column 0) zeros
     ∷ repairs tile-6 (row 0) zeros
     ∷ repairs tile-7 (refused 5) tile-7
@@ -135,7 +135,7 @@ cases =
     ∷ fills tile-10 (Row 0) (Column 0) (refused 5) tile-10
     ∷ []
 
--- and others: two tiles that are not good, two that are not hurt, one whose column is repaired though its sums are not zero, and tile 9
+-- and others: two tiles that are not good, two that are not hurt, one whose cell is repaired though its sums are not zero, and tile 9
 -- again, with other bytes in the flagged lines
 abbrev pub others : List Case
 others =
@@ -143,7 +143,7 @@ others =
     ∷ spoiled copied-1
     ∷ repairs zeros clean zeros
     ∷ repairs tile-2 clean tile-2
-    ∷ repairs hurt-2 (column 0) tile-2
+    ∷ repairs hurt-2 (Said.cell 0 0) tile-2
     ∷ fills other-9 (Row 0) (Column 0) done filled-9
     ∷ []
 
@@ -157,12 +157,9 @@ exactly R once s x r = (r, λ t y q. once t s y x q r)
 unfoldable pub mends : (x : List ℕ) (s : Said) (y : List ℕ) → Test (Admitted 5 2 (TileLength 5 x) size.well → RepairTold 5 2 x s y)
 mends x done y = never
 mends x clean y = so (both (same y x) (good x)) (λ t h. rw (t .0) (RepairTold.is-good h (t .1)))
-mends x (column c) y =
-    so (both (not-good x) (both (explaining (Column c) x y) (none-of Column c x))) (λ t h.
-    RepairTold.by-column h (t .0) (t .1 .0) (t .1 .1 (t .0)))
-mends x (row r) y =
-    so (both (not-good x) (both (none Column (λ k. refl) x) (both (explaining (Row r) x y) (none-of Row r x)))) (λ t h.
-    RepairTold.by-row h (t .1 .0 (t .0)) (t .1 .1 .0) (t .1 .1 .1 (t .0)))
+mends x (Said.cell i j) y = so (both (explaining (Column j) x y) (one-byte x y i j)) (λ t h. RepairTold.mends h (t .0) (by-cell (t .1)))
+mends x (column c) y = so (both (explaining (Column c) x y) (more-bytes (Column c) x y)) (λ t h. RepairTold.mends h (t .0) (by-column (t .1)))
+mends x (row r) y = so (both (explaining (Row r) x y) (more-bytes (Row r) x y)) (λ t h. RepairTold.mends h (t .0) (by-row (t .1)))
 mends x (refused n) y =
     so (both (equal n 5) (both (same y x) (both (not-good x) (no-line x)))) (λ t h.
     rw (t .0, t .1 .0) (RepairTold.by-none h (t .1 .1 .1 (t .1 .1 .0))))
@@ -176,6 +173,7 @@ filled x a b (refused n) y =
     let lines = t .1 .1 in
     rw (t .0, t .1 .0) (FillTold.none h (lines .0) (lines .1 .0) (lines .1 .1 (lines .0) (lines .1 .0))))
 filled x a b clean y = never
+filled x a b (Said.cell i j) y = never
 filled x a b (column c) y = never
 filled x a b (row r) y = never
 
@@ -207,7 +205,7 @@ tested (fills tile a b said new) =
 
 -- what the tests show
 computed : Each Claim cases × Each Claim others
-unfolding each tested mends filled admitted-tile writing same good not-good outside filling none-of none no-line uncrossed no-filling upTo sum cell place textFrom textOf tabulate xorBelow _⊕_
+unfolding each tested mends filled admitted-tile writing some same good not-good outside differing filling more-bytes one-byte none no-line uncrossed no-filling upTo sum cell place textFrom textOf tabulate xorBelow _⊕_
 computed = both (each Claim tested cases) (each Claim tested others) .shows tt
 
 -- THE WORKED TILES: every claim of the list holds

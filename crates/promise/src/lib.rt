@@ -13,9 +13,10 @@ pub enum Outcome {
     Refused(Refusal),
 }
 
-// What repair answers: nothing was hurt, or the column or the row that it repaired.
+// What repair answers: nothing was hurt; or what it put right: one byte, by its row and its column, or two and more of a column or of a row.
 pub enum Repaired {
     Clean,
+    Cell(usize, usize),
     Column(usize),
     Row(usize),
     Refused(Refusal),

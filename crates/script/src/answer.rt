@@ -45,6 +45,10 @@ pub fn outcome(outcome: Outcome) {
 pub fn repaired(repaired: Repaired) {
     match repaired {
         Repaired::Clean => words(b" clean"),
+        Repaired::Cell(r, c) => {
+            count(b" cell", r);
+            count(b"", c);
+        }
         Repaired::Column(c) => count(b" column", c),
         Repaired::Row(r) => count(b" row", r),
         Repaired::Refused(refusal) => refused(refusal),

@@ -1,10 +1,11 @@
 -- Which line is hurt. Assumes nothing.
 use mathlib.Core.Path.{_≡_, sym, ap₂, _∙_}
-use Prim.Native.Nat.{ℕ, _-_, _*_, _%_, _<_}
-use native.Mathlib.Nat.{mod-lt}
+use mathlib.Core.Logic.{_≢_, ⊎-elim}
+use Prim.Native.Nat.{ℕ, _+_, _-_, _*_, _%_, _≤_, _<_}
+use native.Mathlib.Nat.{mod-lt, eq-or-lt-of-le}
 use native.Mathlib.Omega.{arith}
 use Rattle.xor.specs.Xor.{_⊕_}
-use Rattle.code.specs.OneLine.{through, Agree, first-turned, second-turned}
+use Rattle.code.specs.OneLine.{number, through, Agree, first-turned, second-turned}
 use Rattle.code.specs.declared.Line.{Line}
 use Rattle.code.specs.declared.Line.the-variants.{Row, Column}
 use Rattle.walk.specs.Sums.{AllOne}
@@ -16,12 +17,25 @@ use Rattle.search.specs.declared.hurt.Hurt.the-variants as hurt
 -- what the search finds of the sums A and B, and the change x that mends it
 pub data Found (p l : ℕ) (A B x : ℕ → ℕ) : Hurt → Type 0 where
   good : AllOne p A B → Found p l A B x hurt.Nothing
-  column : {c : ℕ} → (AllOne p A B → ⊥) → c < p - 1 → Agree p l A B (Column c) → ((k : ℕ) → k < c → Agree p l A B (Column k) → ⊥)
-      → Shifted p A (Column c) x → Found p l A B x (hurt.Column c)
-  row : {r : ℕ} → (AllOne p A B → ⊥) → r < p - 1 → ((k : ℕ) → k < p - 1 → Agree p l A B (Column k) → ⊥) → Agree p l A B (Row r)
-      → ((k : ℕ) → k < r → Agree p l A B (Row k) → ⊥) → Shifted p A (Row r) x → Found p l A B x (hurt.Row r)
-  more : (AllOne p A B → ⊥) → ((k : ℕ) → k < p - 1 → Agree p l A B (Column k) → ⊥) → ((k : ℕ) → k < p - 1 → Agree p l A B (Row k) → ⊥)
-      → Found p l A B x hurt.More
+  one : {a : Line} → (AllOne p A B → ⊥) → number a < p - 1 → Agree p l A B a → Shifted p A a x → Found p l A B x (hurt.One a)
+  more : (AllOne p A B → ⊥) → ((a : Line) → number a < p - 1 → Agree p l A B a → ⊥) → Found p l A B x hurt.More
+
+-- k is the first place from `from` on, below `end`, at which the change x is not zero; if there is none, it is not below `end`
+pub record NextChanged (x : ℕ → ℕ) (from end k : ℕ) : Type 0 where
+  pub low : from ≤ k
+  pub high : from ≤ end → k ≤ end
+  pub is : k < end → x k ≢ 0
+  pub before : (j : ℕ) → from ≤ j → j < k → x j ≡ 0
+
+-- one place more is passed
+pub passed-more : (x : ℕ → ℕ) (from k : ℕ) → ((j : ℕ) → from ≤ j → j < k → x j ≡ 0) → x k ≡ 0 → (j : ℕ) → from ≤ j → j < k + 1 → x j ≡ 0
+passed-more x from k before zero j low h = let le : j ≤ k = omega arith in ⊎-elim (λ e. rw e zero) (λ lt. before j low lt) (eq-or-lt-of-le le)
+
+-- no line agrees if no column does and no row
+pub no-line : (p l : ℕ) (A B : ℕ → ℕ) → ((k : ℕ) → k < p - 1 → Agree p l A B (Column k) → ⊥) → ((k : ℕ) → k < p - 1 → Agree p l A B (Row k) → ⊥)
+    → (a : Line) → number a < p - 1 → Agree p l A B a → ⊥
+no-line p l A B columns rows (Column c) = columns c
+no-line p l A B columns rows (Row r) = rows r
 
 -- ---- only the sums of the lines 0 to p-1 count
 
@@ -49,21 +63,13 @@ found-sums p l A B A′ B′ x ha hb f = go f
     back₂ : (t : ℕ) → t < p → B′ t ≡ B t
     back₂ t h = sym (hb t h)
 
-    to : (a : Line) → Agree p l A B a → Agree p l A′ B′ a
-    to = agree-sums p l A B A′ B′ ha hb
-
-    from : (a : Line) → Agree p l A′ B′ a → Agree p l A B a
-    from = agree-sums p l A′ B′ A B back back₂
-
     bad : (AllOne p A B → ⊥) → AllOne p A′ B′ → ⊥
     bad d g = d (all-one-sums p A′ B′ A B back back₂ g)
 
     go : {which : Hurt} → Found p l A B x which → Found p l A′ B′ x which
     go (good g) = good (all-one-sums p A B A′ B′ ha hb g)
-    go (column {c} d h e none w) = column (bad d) h (to (Column c) e) (λ k q g. none k q (from (Column k) g)) (shifted-sums p l A B A′ B′ ha hb (Column c) x w)
-    go (row {r} d h none e rows w) =
-        row (bad d) h (λ k q g. none k q (from (Column k) g)) (to (Row r) e) (λ k q g. rows k q (from (Row k) g)) (shifted-sums p l A B A′ B′ ha hb (Row r) x w)
-    go (more d none rows) = more (bad d) (λ k q g. none k q (from (Column k) g)) (λ k q g. rows k q (from (Row k) g))
+    go (one {a} d h e w) = one (bad d) h (agree-sums p l A B A′ B′ ha hb a e) (shifted-sums p l A B A′ B′ ha hb a x w)
+    go (more d none) = more (bad d) (λ a h e. none a h (agree-sums p l A′ B′ A B back back₂ a e))
 
 -- ---- rows are columns of the turned tile
 

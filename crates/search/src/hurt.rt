@@ -11,13 +11,12 @@ ghost use lib.ListN.{length};
 ghost use Rattle.code.specs.Slope.{Slope};
 ghost use Rattle.code.specs.Tile.{cell, sum, tileLength};
 ghost use Rattle.code.specs.Held.{held};
-ghost use Rattle.search.specs.Hurt.{Found};
+ghost use Rattle.search.specs.Hurt.{Found, NextChanged};
 
-// What is hurt: nothing, one column, one row, or more than one line can explain, in which case nothing is mended.
+// What is hurt: nothing, bytes of one line, or more than one line can explain, in which case nothing is mended.
 pub enum Hurt {
     Nothing,
-    Column(usize),
-    Row(usize),
+    One(Line),
     More,
 }
 
@@ -38,7 +37,7 @@ pub fn find(p: usize, l: usize, tile: &[u8]) -> Finding
     explain(p, l, &a, &b)
 }
 
-// The line that explains the sums a and b: the first column that does, else the first row.
+// A line that explains the sums a and b: a column if one does, else a row.
 fn explain(p: usize, l: usize, a: &[u8; 257], b: &[u8; 257]) -> Finding
     requires { ⌜ Slope p l ⌝ }
     requires { ⌜ p ≤ 257 ⌝ }
@@ -57,14 +56,14 @@ fn explain(p: usize, l: usize, a: &[u8; 257], b: &[u8; 257]) -> Finding
     let c = column::explaining(p, l, 0, p - 1, a, b);
     if c < p - 1 {
         return Finding {
-            hurt: Hurt::Column(c),
+            hurt: Hurt::One(Line::Column(c)),
             change: column::shifted(p, Line::Column(c), a),
         };
     }
     let r = column::explaining(p, m, 0, p - 1, a, turned);
     if r < p - 1 {
         return Finding {
-            hurt: Hurt::Row(r),
+            hurt: Hurt::One(Line::Row(r)),
             change: column::shifted(p, Line::Row(r), a),
         };
     }
@@ -72,4 +71,19 @@ fn explain(p: usize, l: usize, a: &[u8; 257], b: &[u8; 257]) -> Finding
         hurt: Hurt::More,
         change: zeros(),
     }
+}
+
+// The first place from `from` on, below `end`, at which a change is not zero. If there is none, a place that is not below `end`.
+pub fn next_changed(change: &[u8; 257], from: usize, end: usize) -> usize
+    requires { ⌜ end ≤ 257 ⌝ }
+    ensures { λ r. ⌜ NextChanged (held (now (change .entry))) from end r ⌝ }
+{
+    let mut k = from;
+    while k < end {
+        if change[k] != 0 {
+            return k;
+        }
+        k += 1;
+    }
+    k
 }

@@ -13,7 +13,7 @@ use Rattle.size.specs.Shams.{size-5, at-5-2}
 use Rattle.promise.specs.Answer as answer
 use Rattle.promise.specs.Calls.{RepairTold}
 use Rattle.promise.specs.Admit.{admits}
-use Rattle.promise.specs.Decide.{Test, so, both, below, equal, at-most, same, good, not-good, outside, filling, none-of, none, no-line, uncrossed, no-filling, Each, each, numbered}
+use Rattle.promise.specs.Decide.{Test, so, both, some, below, equal, at-most, same, good, not-good, outside, differing, filling, more-bytes, one-byte, none, no-line, uncrossed, no-filling, Each, each, numbered}
 use Rattle.promise.specs.Worked as worked
 use Rattle.promise.specs.Worked.{Exactly, exactly, zeros, text-1, tile-1, tile-4, writing, tested, mends, filled, admitted-tile}
 use Rattle.sheet.specs.Sheet.{records, byteOf, Marked, rowOf, columnOf, given, differences, Placed, SoundBelow}
@@ -24,7 +24,7 @@ use Rattle.sheet.specs.Once.{correct-told-once}
 -- ---- the tiles and the sheets
 
 -- SPEC 10, tile 11: the tile of 4, and a sheet that puts 1 for 0 in cell (0, 0); the tile of 1 comes out, hurt in (2, 3) as that of 4 was,
--- and repair answers column 3 again
+-- and repair answers cell 2 3 again
 abbrev pub sheet-11 : List ℕ
 sheet-11 = 0xC3 ∷ 0x3C ∷ 0 ∷ 0 ∷ 0 ∷ 0 ∷ 0 ∷ 1 ∷ []
 
@@ -66,14 +66,14 @@ after (c ∷ cs) ds = of-tile c ∷ after cs ds
 
 -- tiles 1 to 11
 abbrev pub cases : List Case
-cases = after worked.cases (corrects tile-4 sheet-11 tile-1 tile-11 (answer.column 3) tile-1 ∷ [])
+cases = after worked.cases (corrects tile-4 sheet-11 tile-1 tile-11 (answer.cell 2 3) tile-1 ∷ [])
 
 -- and others: a good tile corrected by one record, and by two; and a tile that is hurt in the corrected place
 abbrev pub others : List Case
 others =
     corrects zeros sheet-11 tile-1 tile-1 answer.clean tile-1
     ∷ corrects zeros sheet-two tile-two tile-two answer.clean tile-two
-    ∷ corrects hurt-cell sheet-11 tile-1 corrected-cell (answer.column 0) tile-1
+    ∷ corrects hurt-cell sheet-11 tile-1 corrected-cell (answer.cell 0 0) tile-1
     ∷ []
 
 -- ---- the tests
@@ -98,7 +98,7 @@ case-tested (corrects tile sheet change new said fixed) =
 
 -- what the tests show
 computed : Each Claim cases × Each Claim others
-unfolding each case-tested sound-sheet tested mends filled admitted-tile writing same good not-good outside filling none-of none no-line uncrossed no-filling upTo sum cell place textFrom textOf xored differences given tabulate xorBelow _⊕_
+unfolding each case-tested sound-sheet tested mends filled admitted-tile writing some same good not-good outside differing filling more-bytes one-byte none no-line uncrossed no-filling upTo sum cell place textFrom textOf xored differences given tabulate xorBelow _⊕_
 computed = both (each Claim case-tested cases) (each Claim case-tested others) .shows tt
 
 -- THE WORKED TILES: every claim of the list holds

@@ -1,6 +1,5 @@
 -- The contracts settle the answers: two answers that are right for the same input are the same. Assumes nothing.
 use mathlib.Core.Path.{_≡_, refl, ap, sym, _∙_}
-use mathlib.Core.Bool.{Bool, true, false}
 use mathlib.Core.List.{[], _∷_}
 use Prim.Native.Nat.{ℕ, _-_}
 use native.Mathlib.Nat.{le-antisymm}
@@ -17,11 +16,11 @@ use Rattle.size.specs.declared.Judgement.{Judgement}
 use Rattle.size.specs.declared.Judgement.the-variants as judgement
 
 -- the refusal that has the number n
-abbrev refusalOf : ℕ → Refusal
+abbrev pub refusalOf : ℕ → Refusal
 refusalOf n = getD (BadSize ∷ BadSlope ∷ BadLength ∷ BadPlace ∷ Damaged ∷ BadMark ∷ CutShort ∷ []) (n - 1) BadSize
 
 -- the refusal that has the number of r is r
-back : (r : Refusal) → refusalOf (numberOf r) ≡ r
+pub back : (r : Refusal) → refusalOf (numberOf r) ≡ r
 back BadSize = refl
 back BadSlope = refl
 back BadLength = refl

@@ -15,7 +15,7 @@ pub data Answer : Type 0 where
 abbrev pub word : Answer → ℕ
 word (answer kind first second) = kind * 0x100000000 + first * 0x10000 + second
 
--- SPEC 11.1: what is well, and has no number to tell, is kind 0; a refusal is kind 4 with its number. Kind 3 is kept for a single cell
+-- SPEC 11.1: what is well, and has no number to tell, is kind 0; a refusal is kind 4 with its number.
 abbrev pub done : Answer
 done = answer 0 0 0
 
@@ -28,10 +28,12 @@ sizeAnswer (size.slope l) = answer 0 l 0
 sizeAnswer size.well = done
 sizeAnswer (size.refused n) = refusal n
 
--- SPEC 11.1: what write, read, fill and repair say; a column is kind 1 and a row kind 2, with its number
+-- SPEC 11.1: what write, read, fill and repair say; a column is kind 1 and a row kind 2, with its number, and a cell is kind 3 with its row
+-- first and its column second
 abbrev pub tileAnswer : tile.Said → Answer
 tileAnswer tile.done = done
 tileAnswer tile.clean = done
+tileAnswer (tile.cell r c) = answer 3 r c
 tileAnswer (tile.column c) = answer 1 c 0
 tileAnswer (tile.row r) = answer 2 r 0
 tileAnswer (tile.refused n) = refusal n

@@ -17,36 +17,38 @@ pub const COLUMN: u16 = 1;
 
 pub const ROW: u16 = 2;
 
+pub const CELL: u16 = 3;
+
 pub const REFUSED: u16 = 4;
 
 pub const END: u16 = 7;
 
-// The word of a kind and a first number. The second number is 0: no answer has one yet.
-pub fn word(kind: u16, first: u16) -> u64
-    ensures { λ r. ⌜ r ≡ spec.word (spec.answer kind first 0) ⌝ }
+// The word of a kind and its two numbers, which are 0 where it has none.
+pub fn word(kind: u16, first: u16, second: u16) -> u64
+    ensures { λ r. ⌜ r ≡ spec.word (spec.answer kind first second) ⌝ }
 {
-    kind as u64 * 0x100000000 + first as u64 * 0x10000
+    kind as u64 * 0x100000000 + first as u64 * 0x10000 + second as u64
 }
 
 // Done, clean or a tile.
 pub fn done() -> u64
     ensures { λ r. ⌜ r ≡ spec.word spec.done ⌝ }
 {
-    word(DONE, 0)
+    word(DONE, 0, 0)
 }
 
 // A refusal, by its number.
 pub fn refused(refusal: Refusal) -> u64
     ensures { λ r. ⌜ r ≡ spec.word (spec.refusal (numberOf refusal)) ⌝ }
 {
-    word(REFUSED, size::number(refusal) as u16)
+    word(REFUSED, size::number(refusal) as u16, 0)
 }
 
 // The end of a reel.
 pub fn end() -> u64
     ensures { λ r. ⌜ r ≡ spec.word (spec.answer 7 0 0) ⌝ }
 {
-    word(END, 0)
+    word(END, 0, 0)
 }
 
 // What a size and a slope are judged to be.
@@ -73,7 +75,7 @@ pub fn of_outcome(answer: Outcome) -> u64
 pub fn version() -> u64
     ensures { λ r. ⌜ r ≡ numbered.version ⌝ }
 {
-    200
+    300
 }
 
 // The line that a number names.

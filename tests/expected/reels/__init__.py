@@ -10,6 +10,7 @@ GROUPS = {
     "each state of a tile": tiles.each_state,
     "the worked tiles": tiles.worked_tiles,
     "one hurt byte in every cell": tiles.one_byte,
+    "one hurt byte of a line, and two": tiles.one_or_two,
     "two hurt bytes": tiles.two_bytes,
     "every hurt line": tiles.every_line,
     "many tiles": tiles.many_tiles,

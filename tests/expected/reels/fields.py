@@ -14,11 +14,12 @@ def each_size():
     """One tile of each size that fits, at its house slope: whole, with a hurt column, a hurt row and a hurt byte."""
     for p in SIZES[:-1]:
         l, byte = HOUSE[p], tile_length(p) // 3
+        row, column = divmod(byte, p - 1)
         tiles = (
             ("whole", good(p, l), "clean"),
             ("a column", damaged("a column", p, l), f"column {p // 2}"),
             ("a row", damaged("a row", p, l), f"row {p // 3}"),
-            ("a byte", one_byte_hurt(good(p, l), byte), f"column {byte % (p - 1)}"),
+            ("a byte", one_byte_hurt(good(p, l), byte), f"cell {row} {column}"),
         )
         for name, tile, answer in tiles:
             yield Case(f"size {p}, {name}", record(p, p, l, tile), f"{p} {p} {l} {answer}\nend 1")
@@ -29,17 +30,23 @@ def each_slope():
     for p in (11, 31):
         for l in SLOPES[p]:
             reel = b"".join(record(n, p, l, damaged(kind, p, l)) for n, kind in enumerate(DAMAGE))
-            yield Case(f"slope {l} at {p}", reel, f"5 {p} {l} refused 5\nend {len(DAMAGE)}")
+            yield Case(f"slope {l} at {p}", reel, f"{len(DAMAGE) - 1} {p} {l} refused 5\nend {len(DAMAGE)}")
     assert SLOPES[11] == [2, 6, 7, 8]
 
 
 def largest():
-    """The largest size that fits: a hurt line whose number has one, two and three digits, and tiles that no line explains."""
+    """The largest size that fits: a hurt line whose number has one, two and three digits, a hurt cell, and tiles that no line explains."""
     p, l = LARGEST, HOUSE[LARGEST]
     for n in (0, 9, 10, 99, 100, 249):
         for kind in ("column", "row"):
             reel = record(n, p, l, hurt(good(p, l), p, (kind, n)))
             yield Case(f"{kind} {n} at {p}", reel, f"{n} {p} {l} {kind} {n}\nend 1")
+    for row, column in ((0, 0), (9, 10), (100, 9), (10, 249), (249, 99)):
+        reel = record(1, p, l, hurt(good(p, l), p, ("cell", row, column)))
+        yield Case(f"cell ({row}, {column}) at {p}", reel, f"1 {p} {l} cell {row} {column}\nend 1")
+    steepest = SLOPES[p][-1]
+    reel = record(2**32 - 1, p, steepest, hurt(good(p, steepest), p, ("cell", 249, 249)))
+    yield Case("the longest line", reel, f"4294967295 {p} {steepest} cell 249 249\nend 1")
     for kind in ("two columns", "two rows", "a row with a column"):
         yield Case(f"{kind} at {p}", record(1, p, l, damaged(kind, p, l)), f"1 {p} {l} refused 5\nend 1")
     garbage = Random(251).randbytes(tile_length(p))

@@ -6,7 +6,7 @@ from typing import NamedTuple
 from expected.reel import HEADER, record
 from expected.sample import change_of, numbers, sample
 from expected.sizes import HOUSE
-from expected.tile import places, text_length, tile_length, write
+from expected.tile import place, places, text_length, tile_length, write
 
 
 class Case(NamedTuple):
@@ -18,9 +18,10 @@ class Case(NamedTuple):
     ends: str | None = None
 
 
-# For each kind of damage the lines of a tile of size p that are hurt.
+# For each kind of damage what is hurt of a tile of size p: lines, or a cell by its row and its column.
 DAMAGE = {
     "nothing": lambda p: (),
+    "a cell": lambda p: (("cell", p - 2, p // 3),),
     "a column": lambda p: (("column", p // 2),),
     "a row": lambda p: (("row", p // 3),),
     "two columns": lambda p: (("column", 0), ("column", p - 2)),
@@ -37,12 +38,18 @@ def good(p, l, seed=1):
     return bytes(tile)
 
 
-def hurt(tile, p, *lines):
-    """The tile with every byte of the lines changed."""
+def places_of(p, part):
+    """The places of the cells of a row or a column, or the place of a cell."""
+    kind, *where = part
+    return [place(p, *where)] if kind == "cell" else places(p, part)
+
+
+def hurt(tile, p, *parts):
+    """The tile with every byte of these lines or cells changed."""
     tile = list(tile)
-    for seed, line in enumerate(lines, start=1):
+    for seed, part in enumerate(parts, start=1):
         drawn = numbers(seed)
-        for k in places(p, line):
+        for k in places_of(p, part):
             tile[k] ^= change_of(next(drawn))
     return bytes(tile)
 

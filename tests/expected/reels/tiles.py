@@ -2,7 +2,7 @@
 
 from expected.reel import record
 from expected.reels.made import DAMAGE, Case, damaged, good, hurt, joined, one_byte_hurt
-from expected.tile import parsed, tile_length
+from expected.tile import parsed, places, tile_length
 from expected.tiles import REPAIRED, WRITTEN, ones
 
 
@@ -19,7 +19,7 @@ def listed(p, l, states):
 def each_state():
     """Each state on one reel, and a tile refused 5 first, in the middle and last: it is counted, and the listing goes on."""
     p, l = 11, 2
-    states = dict(zip(DAMAGE, ("clean", "column 5", "row 3", *["refused 5"] * 3), strict=True))
+    states = dict(zip(DAMAGE, ("clean", "cell 9 3", "column 5", "row 3", *["refused 5"] * 3), strict=True))
     tiles = [damaged(kind, p, l) for kind in states]
     yield Case("each state", numbered(p, l, tiles), listed(p, l, states.values()))
     yield Case("each state, from the last", numbered(p, l, tiles[::-1]), listed(p, l, [*states.values()][::-1]))
@@ -44,12 +44,25 @@ def worked_tiles():
 
 
 def one_byte():
-    """One hurt byte, in every cell: SPEC 5.3 answers with the column through it."""
+    """One hurt byte, in every cell: SPEC 5.3 answers with the cell."""
     for p, l in ((5, 2), (5, 3), (7, 3), (7, 5)):
         for change in (0x01, 0x80, 0xFF):
             tiles = [one_byte_hurt(good(p, l), k, change) for k in range(tile_length(p))]
-            said = listed(p, l, [f"column {k % (p - 1)}" for k in range(tile_length(p))])
+            said = listed(p, l, [f"cell {i} {j}" for i in range(p - 1) for j in range(p - 1)])
             yield Case(f"one byte at {p} {l} changed by {change:02X}", numbered(p, l, tiles), said)
+
+
+def one_or_two():
+    """The first byte of each line hurt, the last one, and both by the same change: two cells, and then the line (SPEC 5.3)."""
+    for p, l in ((5, 2), (7, 5), (11, 7), (23, 5)):
+        for kind in ("column", "row"):
+            tiles, states = [], []
+            for n in range(p - 1):
+                first, *_, last = places(p, (kind, n))
+                hurt_first, hurt_last = (one_byte_hurt(good(p, l), k) for k in (first, last))
+                tiles += [hurt_first, hurt_last, one_byte_hurt(hurt_first, last)]
+                states += ["cell {} {}".format(*divmod(k, p - 1)) for k in (first, last)] + [f"{kind} {n}"]
+            yield Case(f"one byte and two of each {kind} at {p} {l}", numbered(p, l, tiles), listed(p, l, states))
 
 
 def two_bytes():

@@ -3,7 +3,7 @@ use native.Mathlib.Omega.{arith}
 use borrow.Author.Needs.{needs}
 use Rattle.promise.specs.Calls.{refuses}
 use Rattle.promise.specs.Admit.{admitted-well, slope-of}
-use Rattle.mender.specs.Mended.{column-in, row-in, ends-clean, ends-column, ends-row, ends-damaged}
+use Rattle.mender.specs.Mended.{line-in, ends-clean, ends-mended, ends-damaged}
 use Rattle.mender.proofs.repair.Statement.{statement}
 use Rattle.mender.proofs.repair.Tie as tie
 
@@ -39,20 +39,15 @@ add-line-requires c κs =
     let start = judged .before .before in
     let a = rw (found .before .before .enum-told .given .1) at (judged .judge-tile .ensures) in
     let w = admitted-well a in
-    (omega (arith, w .0 .low), w .0 .high, w .2, column-in (start .args .p) (start .args .l) (start .args .tile .now) _ a (rw (hurt .hurt .given .1) at (found .find .ensures)))
+    (omega (arith, w .0 .low), w .0 .high, w .2, line-in (start .args .p) (start .args .l) (start .args .tile .now) _ a (rw (hurt .hurt .given .1) at (found .find .ensures)))
 
-enum-known-hurt-2 : tie.Need-enum-known-hurt-2
-enum-known-hurt-2 c = search needs
-
-add-line-requires-2 : tie.Need-add-line-requires-2
-add-line-requires-2 c κs =
-    let hurt = c .before .before .before in
-    let found = hurt .before .before .before in
+name-requires : tie.Need-name-requires
+name-requires c κs =
+    let found = c .before .before .before .before .before .before .before .before .before .before in
     let judged = found .before .before .before .before in
-    let start = judged .before .before in
     let a = rw (found .before .before .enum-told .given .1) at (judged .judge-tile .ensures) in
     let w = admitted-well a in
-    (omega (arith, w .0 .low), w .0 .high, w .2, row-in (start .args .p) (start .args .l) (start .args .tile .now) _ a (rw (hurt .hurt2 .given .1) at (found .find .ensures)))
+    (omega (arith, w .0 .low), w .0 .high)
 
 returns : tie.Need-returns
 returns c = refuses (rw (c .before .refusal .given .1) at (c .before .before .before .judge-tile .ensures))
@@ -82,24 +77,13 @@ same-length-3 c = search needs
 
 returns-4 : tie.Need-returns-4
 returns-4 c =
-    let hurt = c .before .before .before .before .before .before in
+    let hurt = c .before .before .before .before .before .before .before .before in
     let found = hurt .before .before .before in
     let judged = found .before .before .before .before in
     let start = judged .before .before in
-    ends-column (start .args .p) (start .args .l) (start .args .tile .now) _ (rw (found .before .before .enum-told .given .1) at (judged .judge-tile .ensures)) _ (rw (hurt .hurt .given .1) at (found .find .ensures))
-    (c .before .before .add-line .ensures .1) (c .before .before .add-line .ensures .0)
-
-same-length-4 : tie.Need-same-length-4
-same-length-4 c = search needs
-
-returns-5 : tie.Need-returns-5
-returns-5 c =
-    let hurt = c .before .before .before .before .before .before in
-    let found = hurt .before .before .before in
-    let judged = found .before .before .before .before in
-    let start = judged .before .before in
-    ends-row (start .args .p) (start .args .l) (start .args .tile .now) _ (rw (found .before .before .enum-told .given .1) at (judged .judge-tile .ensures)) _ (rw (hurt .hurt2 .given .1) at (found .find .ensures))
-    (c .before .before .add-line2 .ensures .1) (c .before .before .add-line2 .ensures .0)
+    let added = c .before .before .before .before .add-line in
+    ends-mended (start .args .p) (start .args .l) (start .args .tile .now) _ (rw (found .before .before .enum-told .given .1) at (judged .judge-tile .ensures)) _ (rw (hurt .hurt .given .1) at (found .find .ensures))
+    (added .ensures .1) (added .ensures .0) (c .name .ensures)
 
 pub repair-spec : {M : Type 1} → statement M
 repair-spec =
@@ -113,14 +97,11 @@ repair-spec =
     enum-told-3
     enum-known-hurt
     add-line-requires
-    enum-known-hurt-2
-    add-line-requires-2
+    name-requires
     returns
     same-length
     returns-2
     same-length-2
     returns-3
     same-length-3
-    returns-4
-    same-length-4
-    returns-5)
+    returns-4)

@@ -12,7 +12,7 @@ slice-aggregate-copy c = search needs
 
 copy-requires : tie.Need-copy-requires
 copy-requires c κs =
-    let long : length (c .before .before .before .args .line .bytes) ≡ 96 = search needs in
+    let long : length (c .before .before .before .args .line .bytes) ≡ 112 = search needs in
     omega (arith, c .before .before .before .pre)
 
 add-t10 : tie.Need-add-t10
@@ -22,7 +22,7 @@ returns : tie.Need-returns
 returns c =
     let start = c .before .before .before .before .before in
     let line = start .args .line in
-    let long : length (line .bytes) ≡ 96 = search needs in
+    let long : length (line .bytes) ≡ 112 = search needs in
     (laid-all (line .bytes) (line .length) (start .args .words .now) (omega (arith, start .pre)) _ (c .before .copy .ensures), refl)
 
 pub with-words-spec : {M : Type 1} → statement M

@@ -3,7 +3,7 @@ use native.Mathlib.Omega.{arith}
 use borrow.Author.Needs.{needs}
 use Rattle.code.specs.Says.{says-true, says-false}
 use Rattle.code.specs.Held.{held}
-use Rattle.search.specs.Hurt.{good, column, row, more, row-agrees, agrees-row}
+use Rattle.search.specs.Hurt.{good, one, more, no-line, row-agrees, agrees-row}
 use Rattle.search.proofs.hurt.explain.Statement.{statement}
 use Rattle.search.proofs.hurt.explain.Tie as tie
 
@@ -38,8 +38,7 @@ returns-2 : tie.Need-returns-2
 returns-2 c =
     let inside = c .before .before .before .before .before .before in
     let found = c .before .before .explaining .ensures in
-    column (says-false (inside .before .all-one .ensures) (inside .if1 .left)) (c .before .if2 .taken) (found .agrees (c .before .if2 .taken))
-    (λ k h. found .none k (omega arith) h) (c .shifted .ensures)
+    one (says-false (inside .before .all-one .ensures) (inside .if1 .left)) (c .before .if2 .taken) (found .agrees (c .before .if2 .taken)) (c .shifted .ensures)
 
 sub-explaining-2 : tie.Need-sub-explaining-2
 sub-explaining-2 c = search needs
@@ -58,11 +57,10 @@ returns-3 c =
     let searched = c .before .before .before .before in
     let inverted = searched .before .before .before in
     let start = inverted .before .before .before in
-    let columns = searched .explaining .ensures in
     let found = c .before .before .explaining2 .ensures in
-    row (says-false (inverted .before .before .all-one .ensures) (inverted .before .if1 .left)) (c .before .if3 .taken) (λ k h. columns .none k (omega arith) (omega arith))
+    one (says-false (inverted .before .before .all-one .ensures) (inverted .before .if1 .left)) (c .before .if3 .taken)
     (row-agrees _ _ _ (inverted .inverse .ensures .0) (held (start .args .a .now)) (held (start .args .b .now)) (held (searched .before .before .turned .result)) (searched .before .before .turned .ensures) _ (found .agrees (c .before .if3 .taken)))
-    (λ k h g. found .none k (omega arith) h (agrees-row _ _ _ (inverted .inverse .ensures .0) (held (start .args .a .now)) (held (start .args .b .now)) (held (searched .before .before .turned .result)) (searched .before .before .turned .ensures) k g)) (c .shifted2 .ensures)
+    (c .shifted2 .ensures)
 
 zeros-requires-2 : tie.Need-zeros-requires-2
 zeros-requires-2 c κs = search needs
@@ -74,8 +72,8 @@ returns-4 c =
     let start = inverted .before .before .before in
     let columns = searched .explaining .ensures in
     let found = c .before .before .explaining2 .ensures in
-    more (says-false (inverted .before .before .all-one .ensures) (inverted .before .if1 .left)) (λ k h. columns .none k (omega arith) (omega arith))
-    (λ k h g. found .none k (omega arith) (omega arith) (agrees-row _ _ _ (inverted .inverse .ensures .0) (held (start .args .a .now)) (held (start .args .b .now)) (held (searched .before .before .turned .result)) (searched .before .before .turned .ensures) k g))
+    more (says-false (inverted .before .before .all-one .ensures) (inverted .before .if1 .left)) (no-line (start .args .p) (start .args .l) (held (start .args .a .now)) (held (start .args .b .now)) (λ k h. columns .none k (omega arith) (omega arith))
+    (λ k h g. found .none k (omega arith) (omega arith) (agrees-row _ _ _ (inverted .inverse .ensures .0) (held (start .args .a .now)) (held (start .args .b .now)) (held (searched .before .before .turned .result)) (searched .before .before .turned .ensures) k g)))
 
 pub explain-spec : {M : Type 1} → statement M
 explain-spec =
