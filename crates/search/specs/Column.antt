@@ -12,12 +12,12 @@ use Rattle.code.specs.declared.Line.{Line}
 use Rattle.code.specs.declared.Line.the-variants.{Column}
 use Rattle.walk.specs.Sums.{Stepped}
 
--- c is the first column from `from` to `end` along which the sums agree, or `end` where there is none
-pub record FirstColumn (p l : ℕ) (A B : ℕ → ℕ) (from end c : ℕ) : Type 0 where
+-- c is a column from `from` to `end` along which the sums agree, or `end` where there is none
+pub record Searched (p l : ℕ) (A B : ℕ → ℕ) (from end c : ℕ) : Type 0 where
   pub low : from ≤ c
   pub high : c ≤ end
   pub agrees : c < end → Agree p l A B (Column c)
-  pub none : (k : ℕ) → from ≤ k → k < c → Agree p l A B (Column k) → ⊥
+  pub none : end ≤ c → (k : ℕ) → from ≤ k → k < end → Agree p l A B (Column k) → ⊥
 
 -- x holds the sums of the slope-1 lines through the cells of a line
 abbrev pub Along : ℕ → (ℕ → ℕ) → Line → (ℕ → ℕ) → Type 0

@@ -6,10 +6,10 @@ ghost use mathlib.Core.Path.{_≡_};
 ghost use Prim.Native.Nat.{ℕ, _+_, _-_, _≤_, _<_};
 ghost use Rattle.code.specs.OneLine as law;
 ghost use Rattle.code.specs.Held.{held};
-ghost use Rattle.search.specs.Column.{FirstColumn, Along, TakenOff, Shifted};
+ghost use Rattle.search.specs.Column.{Searched, Along, TakenOff, Shifted};
 
-// The first column from `first` to `end` along which the sums agree, or `end` where there is none. At the first
-// cell where they differ it goes on to the next column.
+// A column from `first` to `end` along which the sums agree, or `end` where there is none. The columns are tried in
+// their order, and each is given up at the first cell where the sums differ.
 pub fn explaining(
     p: usize,
     l: usize,
@@ -19,7 +19,7 @@ pub fn explaining(
     b: &[u8; 257],
 ) -> usize
     requires { ⌜ (2 ≤ p) × (l < p) × (p ≤ 257) × (first ≤ end) × (end ≤ p) ⌝ }
-    ensures { λ r. ⌜ FirstColumn p l (held (now (a .entry))) (held (now (b .entry))) first end r ⌝ }
+    ensures { λ r. ⌜ Searched p l (held (now (a .entry))) (held (now (b .entry))) first end r ⌝ }
 {
     let mut c = first;
     'columns: loop {

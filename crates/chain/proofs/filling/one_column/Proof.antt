@@ -32,7 +32,7 @@ returns-2 c =
     let start = c .before .before .before in
     rw (c .none .ensures)
     (one-no (start .args .p) (start .args .l) _ _ (start .pre .0) (start .args .c) (omega arith)
-    (λ g. c .before .before .explaining .ensures .none (start .args .c) (omega arith) (omega (arith, c .before .before .explaining .ensures .low, c .before .if1 .left)) g))
+    (λ g. c .before .before .explaining .ensures .none (omega (arith, c .before .before .explaining .ensures .low, c .before .if1 .left)) (start .args .c) (omega arith) (omega arith) g))
 
 pub one-column-spec : {M : Type 1} → statement M
 one-column-spec =

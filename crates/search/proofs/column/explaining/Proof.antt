@@ -106,7 +106,7 @@ returns : tie.Need-returns Inv-loop μ-loop Inv-columns μ-columns
 returns c =
     let inv = c .before .columns .inv in
     let e : c .before .columns .c ≡ c .before .before .args .end = omega arith in
-    record { low = omega arith; high = omega arith; agrees = λ h. omega arith; none = rw e at (inv .2) }
+    record { low = omega arith; high = omega arith; agrees = λ h. omega arith; none = λ h. rw e at (inv .2) }
 
 returns-2 : tie.Need-returns-2 Inv-loop μ-loop Inv-columns μ-columns
 returns-2 c =
@@ -116,7 +116,7 @@ returns-2 c =
       low = omega arith;
       high = omega arith;
       agrees = λ h. rw e (λ k lt. c .before .loop .inv .6 k (omega arith));
-      none = λ k h lt. before .inv .2 k h (omega arith);
+      none = λ h. omega arith;
     }
 
 pub explaining-spec : {M : Type 1} → statement M

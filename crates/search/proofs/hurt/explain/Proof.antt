@@ -72,8 +72,8 @@ returns-4 c =
     let start = inverted .before .before .before in
     let columns = searched .explaining .ensures in
     let found = c .before .before .explaining2 .ensures in
-    more (says-false (inverted .before .before .all-one .ensures) (inverted .before .if1 .left)) (no-line (start .args .p) (start .args .l) (held (start .args .a .now)) (held (start .args .b .now)) (λ k h. columns .none k (omega arith) (omega arith))
-    (λ k h g. found .none k (omega arith) (omega arith) (agrees-row _ _ _ (inverted .inverse .ensures .0) (held (start .args .a .now)) (held (start .args .b .now)) (held (searched .before .before .turned .result)) (searched .before .before .turned .ensures) k g)))
+    more (says-false (inverted .before .before .all-one .ensures) (inverted .before .if1 .left)) (no-line (start .args .p) (start .args .l) (held (start .args .a .now)) (held (start .args .b .now)) (λ k h. columns .none (omega arith) k (omega arith) h)
+    (λ k h g. found .none (omega arith) k (omega arith) h (agrees-row _ _ _ (inverted .inverse .ensures .0) (held (start .args .a .now)) (held (start .args .b .now)) (held (searched .before .before .turned .result)) (searched .before .before .turned .ensures) k g)))
 
 pub explain-spec : {M : Type 1} → statement M
 explain-spec =
