@@ -50,7 +50,7 @@ pub record OneByte (p : ℕ) (x y : List ℕ) (i j : ℕ) : Type 0 where
   pub here : Differ p x y i j
   pub alone : (r k : ℕ) → Differ p x y r k → (r ≡ i) × (k ≡ j)
 
--- SPEC 5.3: two tiles differ in two bytes or more, and all of these stand on the line a
+-- SPEC 5.3: two tiles differ in two bytes or more, of which (i, j) and (r, k) are two, and all of these stand on the line a
 pub record MoreBytes (p : ℕ) (x y : List ℕ) (a : Line) : Type 0 where
   pub i : ℕ
   pub j : ℕ

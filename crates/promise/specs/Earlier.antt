@@ -17,6 +17,7 @@ use Rattle.promise.specs.Calls.{Admitted, TileLength, Explains, Unexplai
 use Rattle.promise.specs.Admit.{admitted-well, slope-of}
 use Rattle.promise.specs.Name.{lineSaid, more-on}
 use Rattle.promise.specs.Explain.{unexplained-hurt, explains-once, explains-named, named-hurt}
+use Rattle.promise.specs.Once.{repair-told-once}
 
 -- the earlier rule: the first column that explains a tile that is not good; where no column does, the first row; else 5
 pub data ToldEarlier (p l : ℕ) (tile : List ℕ) : Said → List ℕ → Type 0 where
@@ -100,3 +101,11 @@ module _ (p l : ℕ) (tile : List ℕ) where
       go (by-cell o) = absurd (none _ new (held h e (Column _) (λ r k d. o .alone r k d .1)))
       go (by-column m) = ap lineSaid (more-on (Row r) m on)
       go (by-row m) = ap lineSaid (more-on (Row r) m on)
+
+  -- so of one tile the earlier report said what today's answer stands for, and the bytes are the same
+  pub earlier-report : {said was : Said} {new old : List ℕ} → RepairTold p l tile said new → ToldEarlier p l tile was old
+      → (was ≡ earlier said) × (old ≡ new)
+  earlier-report {said} {was} {new} {old} told report =
+      let s = stood-for report in
+      let q = repair-told-once p l tile (s .0) said old new (s .1) told in
+      (sym (s .2) ∙ ap earlier (q .0), q .1)
