@@ -60,11 +60,10 @@ unfoldable pub some : (P : ℕ → Type 0) (n : ℕ) → ((k : ℕ) → Test (P 
 some P zero t = never
 some P (suc n) t = record {
   pass = t n .pass || some P n t .pass;
-  shows = λ h. or-either (t n .pass) (some P n t .pass) h (λ q. (n, lt-suc-self n, t n .shows q)) (λ q. later n (some P n t .shows q));
+  shows = λ h.
+      or-either (t n .pass) (some P n t .pass) h (λ q. (n, lt-suc-self n, t n .shows q)) (λ q.
+      let s = some P n t .shows q in (s .0, le-step (s .1), s .2));
 }
-  where
-    later : (n : ℕ) → (k : ℕ) × (k < n) × P k → (k : ℕ) × (k < suc n) × P k
-    later n s = (s .0, le-step (s .1), s .2)
 
 -- a test that passes for each k below n
 abbrev pub below : (P : ℕ → Type 0) (n : ℕ) → ((k : ℕ) → Test (P k)) → Test ((k : ℕ) → k < n → P k)
