@@ -39,16 +39,16 @@ read-fits (ReadTold.refuses h) = admitted-fits h
 read-fits (ReadTold.not-good h f) = (omega arith, omega arith)
 read-fits (ReadTold.reads h g) = (omega arith, omega arith)
 
+-- the cell or the line that repair names is one of the tile's
 named-fits : {p : ℕ} {x y : List ℕ} {said : tile.Said} → p ≤ 257 → Named p x y said → Fits (tileAnswer said)
-named-fits high (by-cell o) = (omega (arith, o .here .row), omega (arith, o .here .column))
+named-fits high (by-cell o) = (omega (arith, named-in (by-cell o)), omega (arith, named-in (by-cell o)))
 named-fits high (by-column m) = (omega (arith, named-in (by-column m)), omega arith)
 named-fits high (by-row m) = (omega (arith, named-in (by-row m)), omega arith)
 
--- the cell or the line that repair names is one of the tile's
 pub repair-fits : {p l : ℕ} {x y : List ℕ} {said : tile.Said} → RepairTold p l x said y → Fits (tileAnswer said)
 repair-fits (RepairTold.refuses h) = admitted-fits h
 repair-fits (RepairTold.is-good h g) = (omega arith, omega arith)
-repair-fits {p} (RepairTold.mends h e n) = named-fits (admitted-well h .0 .high) n
+repair-fits (RepairTold.mends h e n) = named-fits (admitted-well h .0 .high) n
 repair-fits (RepairTold.by-none h f) = (omega arith, omega arith)
 
 pub fill-fits : {p l : ℕ} {x y : List ℕ} {a b : Line} {said : tile.Said} → FillTold p l x a b said y → Fits (tileAnswer said)

@@ -5,7 +5,6 @@ use Prim.Native.Nat.{ℕ}
 use native.Mathlib.Omega.{arith}
 use lib.ListN.{length}
 use Rattle.code.specs.Tile.{textLength, textOf, Good}
-use Rattle.code.specs.Differ.{differ-on}
 use Rattle.code.specs.declared.Line.the-variants.{Row}
 use Rattle.size.specs.Answer as size
 use Rattle.size.specs.Shams.{size-5, at-5-2}
@@ -13,7 +12,7 @@ use Rattle.promise.specs.Answer as tile
 use Rattle.promise.specs.Admit.{admits}
 use Rattle.promise.specs.Calls as tile-calls
 use Rattle.promise.specs.Calls.{WriteTold, Explains, RepairTold}
-use Rattle.promise.specs.Explain.{explains-fills}
+use Rattle.promise.specs.Explain.{explains-fills, explains-on}
 use Rattle.promise.specs.Worked as tile-case
 use Rattle.promise.specs.Worked.{zeros, text-1, tile-1, tile-4, tile-6, tile-8, repaired-8, tile-9, filled-9, copied-1}
 use Rattle.sheet.specs.Answer as sheet
@@ -33,8 +32,7 @@ written-good : {p l : ℕ} {text x y : List ℕ} → WriteTold p l text x tile.d
 written-good (WriteTold.writes h w) = w .good
 
 by-row : {p l r : ℕ} {x y : List ℕ} → RepairTold p l x (tile.row r) y → Explains p l (Row r) x y
-by-row {p} {l} {r} {x} {y} (RepairTold.mends h e (tile-calls.by-row m)) =
-    record { size = e .size; good = e .good; same = differ-on p (Row r) x y .1 (m .within) }
+by-row {p} {l} {r} {x} {y} (RepairTold.mends {a} h e (tile-calls.by-row m)) = explains-on p l a (Row r) x y e (m .within)
 
 -- ---- the house slope
 

@@ -16,7 +16,7 @@ use Rattle.promise.specs.Answer.{Said, done, clean, column, row, refused
 use Rattle.promise.specs.Calls.{Admitted, TileLength, Explains, Unexplained, MoreBytes, Named, by-cell, by-column, by-row, RepairTold}
 use Rattle.promise.specs.Admit.{admitted-well, slope-of}
 use Rattle.promise.specs.Name.{lineSaid, more-on}
-use Rattle.promise.specs.Explain.{unexplained-hurt, explains-once, explains-named, named-hurt}
+use Rattle.promise.specs.Explain.{unexplained-hurt, explains-on, explains-once, explains-named, named-hurt}
 use Rattle.promise.specs.Once.{repair-told-once}
 
 -- the earlier rule: the first column that explains a tile that is not good; where no column does, the first row; else 5
@@ -48,10 +48,6 @@ module _ (p l : ℕ) (tile : List ℕ) where
         let q : y ≡ new = explains-once p l b a tile y new (slope-of h) (inr (w .1 .reach)) f e in
         d .bytes (f .same i j (d .row) (d .column) off ∙ ap (λ (z : List ℕ). cell p z i j) q)
 
-    -- .. a line explains it that holds all cells where they differ
-    held : (b : Line) → ((i j : ℕ) → Differ p tile new i j → On b i j) → Explains p l b tile new
-    held b on = record { size = e .size; good = e .good; same = differ-on p b tile new .1 on }
-
     -- .. and where two bytes of a row differ no column does
     no-column : {r : ℕ} → MoreBytes p tile new (Row r) → (k : ℕ) → Unexplained p l tile (Column k)
     no-column m k = go (ℕ-discrete (m .j) k) (ℕ-discrete (m .k) k)
@@ -67,13 +63,13 @@ module _ (p l : ℕ) (tile : List ℕ) where
   stands-for (RepairTold.is-good h g) = is-good h g
   stands-for (RepairTold.by-none h f) = by-none h f
   stands-for (RepairTold.mends {a} {new} h e (by-cell {i} {j} o)) =
-      first-column h (named-hurt p l a tile new (slope-of h) (admitted-well h .2) e (by-cell o)) (held h e (Column j) (λ r k d. o .alone r k d .1))
+      first-column h (named-hurt p l a tile new (slope-of h) (admitted-well h .2) e (by-cell o)) (explains-on p l a (Column j) tile new e (λ r k d. o .alone r k d .1))
       (λ k q. missed h e (Column k) i j (o .here) (omega arith))
   stands-for (RepairTold.mends {a} {new} h e (by-column {c} m)) =
-      first-column h (named-hurt p l a tile new (slope-of h) (admitted-well h .2) e (by-column m)) (held h e (Column c) (m .within))
+      first-column h (named-hurt p l a tile new (slope-of h) (admitted-well h .2) e (by-column m)) (explains-on p l a (Column c) tile new e (m .within))
       (λ k q. missed h e (Column k) (m .i) (m .j) (m .one) (omega (arith, m .within _ _ (m .one))))
-  stands-for (RepairTold.mends h e (by-row {r} m)) =
-      first-row h (no-column h e m) (held h e (Row r) (m .within)) (λ k q. missed h e (Row k) (m .i) (m .j) (m .one) (omega (arith, m .within _ _ (m .one))))
+  stands-for (RepairTold.mends {a} {new} h e (by-row {r} m)) =
+      first-row h (no-column h e m) (explains-on p l a (Row r) tile new e (m .within)) (λ k q. missed h e (Row k) (m .i) (m .j) (m .one) (omega (arith, m .within _ _ (m .one))))
 
   -- each answer of the earlier rule is one of today's
   pub stood-for : {said : Said} {new : List ℕ} → ToldEarlier p l tile said new → (now : Said) × RepairTold p l tile now new × (earlier now ≡ said)
@@ -98,7 +94,7 @@ module _ (p l : ℕ) (tile : List ℕ) where
       on = differ-on p (Row r) tile new .0 (e .same)
 
       go : {s : Said} → Named p tile new s → earlier s ≡ row r
-      go (by-cell o) = absurd (none _ new (held h e (Column _) (λ r k d. o .alone r k d .1)))
+      go (by-cell {i} {j} o) = absurd (none j new (explains-on p l (Row r) (Column j) tile new e (λ m n d. o .alone m n d .1)))
       go (by-column m) = ap lineSaid (more-on (Row r) m on)
       go (by-row m) = ap lineSaid (more-on (Row r) m on)
 

@@ -7,12 +7,12 @@ use native.Mathlib.Omega.{arith, by-contra}
 use lib.ListN.{length}
 use Rattle.residue.specs.Power.{ReachesAll}
 use Rattle.code.specs.Slope.{Slope}
-use Rattle.code.specs.Tile.{tileLength, cell, sum, Good, On, Fills}
+use Rattle.code.specs.Tile.{tileLength, cell, sum, Good, On, Differ, Fills}
 use Rattle.code.specs.Sums.{one-sum-ext}
 use Rattle.code.specs.Place.{cell-padded, same-within}
 use Rattle.code.specs.Good.{named-twice}
 use Rattle.code.specs.OneLine.{number, Agree}
-use Rattle.code.specs.Differ.{agree-at}
+use Rattle.code.specs.Differ.{agree-at, differ-on}
 use Rattle.code.specs.Distance.{Parallel, equal-tiles}
 use Rattle.code.specs.Filling.{line-agrees, line-filled}
 use Rattle.code.specs.declared.Line.{Line}
@@ -35,6 +35,10 @@ good-explains p l a x e g = record { size = e; good = g; same = λ i j hi hj d. 
 -- so a tile that some line does not explain is not good
 pub unexplained-hurt : (p l : ℕ) (a : Line) (x : List ℕ) → length x ≡ tileLength p → Unexplained p l x a → Good p l x → ⊥
 unexplained-hurt p l a x e u g = u x (good-explains p l a x e g)
+
+-- a line that holds all cells in which x and y differ explains x by y, if any line does
+pub explains-on : (p l : ℕ) (a b : Line) (x y : List ℕ) → Explains p l a x y → ((i j : ℕ) → Differ p x y i j → On b i j) → Explains p l b x y
+explains-on p l a b x y e on = record { size = e .size; good = e .good; same = differ-on p b x y .1 on }
 
 -- a line is parallel to itself
 parallel-self : (a : Line) → Parallel a a

@@ -40,8 +40,6 @@ first-cell p s c = same p (omega arith)
 pub next-cell : (p s i c t r : ℕ) → t ≡ line p s i c → Stepped p t 1 r → r ≡ line p s (i + 1) c
 next-cell p s i c t r e h = h .is ∙ ap (λ (x : ℕ). (x + 1) % p) e ∙ mod-add-mod (i + s * c) p 1 ∙ same p (omega arith)
 
--- no column below c agrees, and c does not: then none below c + 1 does
-pub given-up : (p l : ℕ) (A B : ℕ → ℕ) (from c : ℕ) → ((k : ℕ) → from ≤ k → k < c → Agree p l A B (Column k) → ⊥) → (Agree p l A B (Column c) → ⊥)
-    → (k : ℕ) → from ≤ k → k < c + 1 → Agree p l A B (Column k) → ⊥
-given-up p l A B from c none d k h q g =
-    let le : k ≤ c = omega arith in ⊎-elim (λ e. d (rw e at g)) (λ lt. none k h (omega arith) g) (eq-or-lt-of-le le)
+-- what holds from `from` on up to k, and of k, holds up to k + 1
+pub one-further : (P : ℕ → Type 0) (from k : ℕ) → ((j : ℕ) → from ≤ j → j < k → P j) → P k → (j : ℕ) → from ≤ j → j < k + 1 → P j
+one-further P from k before here j low h = let le : j ≤ k = omega arith in ⊎-elim (λ e. rw e here) (λ lt. before j low lt) (eq-or-lt-of-le le)

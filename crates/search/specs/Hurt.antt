@@ -1,8 +1,8 @@
 -- Which line is hurt. Assumes nothing.
 use mathlib.Core.Path.{_≡_, sym, ap₂, _∙_}
-use mathlib.Core.Logic.{_≢_, ⊎-elim}
-use Prim.Native.Nat.{ℕ, _+_, _-_, _*_, _%_, _≤_, _<_}
-use native.Mathlib.Nat.{mod-lt, eq-or-lt-of-le}
+use mathlib.Core.Logic.{_≢_}
+use Prim.Native.Nat.{ℕ, _-_, _*_, _%_, _≤_, _<_}
+use native.Mathlib.Nat.{mod-lt}
 use native.Mathlib.Omega.{arith}
 use Rattle.xor.specs.Xor.{_⊕_}
 use Rattle.code.specs.OneLine.{number, through, Agree, first-turned, second-turned}
@@ -26,10 +26,6 @@ pub record NextChanged (x : ℕ → ℕ) (from end k : ℕ) : Type 0 where
   pub high : from ≤ end → k ≤ end
   pub is : k < end → x k ≢ 0
   pub before : (j : ℕ) → from ≤ j → j < k → x j ≡ 0
-
--- one place more is passed
-pub passed-more : (x : ℕ → ℕ) (from k : ℕ) → ((j : ℕ) → from ≤ j → j < k → x j ≡ 0) → x k ≡ 0 → (j : ℕ) → from ≤ j → j < k + 1 → x j ≡ 0
-passed-more x from k before zero j low h = let le : j ≤ k = omega arith in ⊎-elim (λ e. rw e zero) (λ lt. before j low lt) (eq-or-lt-of-le le)
 
 -- no line agrees if no column does and no row
 pub no-line : (p l : ℕ) (A B : ℕ → ℕ) → ((k : ℕ) → k < p - 1 → Agree p l A B (Column k) → ⊥) → ((k : ℕ) → k < p - 1 → Agree p l A B (Row k) → ⊥)

@@ -15,7 +15,7 @@ pub data Answer : Type 0 where
 abbrev pub word : Answer → ℕ
 word (answer kind first second) = kind * 0x100000000 + first * 0x10000 + second
 
--- SPEC 11.1: what is well, and has no number to tell, is kind 0; a refusal is kind 4 with its number.
+-- SPEC 11.1: what is well, and has no number to tell, is kind 0; a refusal is kind 4 with its number
 abbrev pub done : Answer
 done = answer 0 0 0
 

@@ -11,7 +11,7 @@ use Rattle.code.specs.Tile.{line}
 use Rattle.code.specs.declared.Line.the-variants.{Column}
 use Rattle.walk.specs.Bound.{product}
 use Rattle.code.specs.Held.{held}
-use Rattle.search.specs.Column.{first-cell, next-cell, given-up}
+use Rattle.search.specs.Column.{first-cell, next-cell, one-further}
 use Rattle.search.proofs.column.explaining.Statement.{statement}
 use Rattle.search.proofs.column.explaining.Tie as tie
 
@@ -71,7 +71,7 @@ columns-again c =
     let loop = c .before .before .before .before .loop in (
       omega arith,
       omega arith,
-      λ k h lt. given-up (a .p) (a .l) (held (a .a .now)) (held (a .b .now)) (a .first) (c .before .before .before .before .before .before .columns .c)
+      λ k h lt. one-further (λ j. Agree (a .p) (a .l) (held (a .a .now)) (held (a .b .now)) (Column j) → ⊥) (a .first) (c .before .before .before .before .before .before .columns .c)
           (c .before .before .before .before .before .before .columns .inv .2)
           (λ g. c .if2 .taken (ap (held (a .a .now)) (loop .inv .4) ∙ g (loop .i) (omega arith) ∙ sym (ap (held (a .b .now)) (loop .inv .5)))) k h (omega arith),
     )

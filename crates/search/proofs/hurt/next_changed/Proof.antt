@@ -4,7 +4,7 @@ use Prim.Native.Nat.{ℕ, _≤_, _<_, _-_}
 use native.Mathlib.Omega.{arith}
 use borrow.Author.Needs.{needs}
 use Rattle.code.specs.Held.{held}
-use Rattle.search.specs.Hurt.{passed-more}
+use Rattle.search.specs.Column.{one-further}
 use Rattle.search.proofs.hurt.next_changed.Statement.{statement}
 use Rattle.search.proofs.hurt.next_changed.Tie as tie
 
@@ -36,7 +36,7 @@ loop-again c =
     let loop = c .before .before .before .loop in (
       omega (arith, loop .inv .0),
       λ h. omega arith,
-      passed-more (held (c .before .before .before .before .args .change .now)) _ _ (loop .inv .2) (c .if1 .left),
+      one-further (λ j. held (c .before .before .before .before .args .change .now) j ≡ 0) _ _ (loop .inv .2) (c .if1 .left),
     )
 
 returns-2 : tie.Need-returns-2 Inv-loop μ-loop
