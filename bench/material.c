@@ -65,7 +65,7 @@ uint8_t *new_tile(size_t p, const uint8_t *text)
 {
     uint8_t *tile = new_memory(cf_tile_len(p));
 
-    if (peer_write(p, SLOPE, text, cf_text_len(p), tile, cf_tile_len(p)) != 0) {
+    if (peer_write(CF_NEW, p, SLOPE, text, cf_text_len(p), tile, cf_tile_len(p)) != 0) {
         fputs("bench: the independent implementation wrote no tile\n", stderr);
         exit(1);
     }

@@ -12,11 +12,11 @@ enum { RECORD = 8, RANDOM_FOR_RECORD = 5, DAMAGE_SEED = 3, SHEET_SEED = 4 };
 
 /* The calls of one implementation. */
 struct calls {
-    uint64_t (*write)(size_t, size_t, const uint8_t *, size_t, uint8_t *, size_t);
-    uint64_t (*read)(size_t, size_t, const uint8_t *, size_t, uint8_t *, size_t);
-    uint64_t (*repair)(size_t, size_t, uint8_t *, size_t);
-    uint64_t (*fill)(size_t, size_t, uint8_t *, size_t, size_t, size_t);
-    uint64_t (*correct)(size_t, size_t, uint8_t *, size_t, const uint8_t *, size_t, uint64_t *);
+    uint64_t (*write)(size_t, size_t, size_t, const uint8_t *, size_t, uint8_t *, size_t);
+    uint64_t (*read)(size_t, size_t, size_t, const uint8_t *, size_t, uint8_t *, size_t);
+    uint64_t (*repair)(size_t, size_t, size_t, uint8_t *, size_t);
+    uint64_t (*fill)(size_t, size_t, size_t, uint8_t *, size_t, size_t, size_t);
+    uint64_t (*correct)(size_t, size_t, size_t, uint8_t *, size_t, const uint8_t *, size_t, uint64_t *);
 };
 
 /* What a job's call is given besides the copy. Each job uses the part that it needs. */
@@ -33,28 +33,28 @@ static uint64_t call_write(const struct job *job, uint8_t *copy)
 {
     const struct given *given = job->given;
 
-    return given->calls->write(job->p, SLOPE, given->text, cf_text_len(job->p), copy, job->length);
+    return given->calls->write(CF_NEW, job->p, SLOPE, given->text, cf_text_len(job->p), copy, job->length);
 }
 
 static uint64_t call_read(const struct job *job, uint8_t *copy)
 {
     const struct given *given = job->given;
 
-    return given->calls->read(job->p, SLOPE, given->tile, cf_tile_len(job->p), copy, job->length);
+    return given->calls->read(CF_NEW, job->p, SLOPE, given->tile, cf_tile_len(job->p), copy, job->length);
 }
 
 static uint64_t call_repair(const struct job *job, uint8_t *copy)
 {
     const struct given *given = job->given;
 
-    return given->calls->repair(job->p, SLOPE, copy, job->length);
+    return given->calls->repair(CF_NEW, job->p, SLOPE, copy, job->length);
 }
 
 static uint64_t call_fill(const struct job *job, uint8_t *copy)
 {
     const struct given *given = job->given;
 
-    return given->calls->fill(job->p, SLOPE, copy, job->length, given->first, given->second);
+    return given->calls->fill(CF_NEW, job->p, SLOPE, copy, job->length, given->first, given->second);
 }
 
 /* Answers the count of records; for anything but Done, a number that no sheet has as its count. */
@@ -62,7 +62,7 @@ static uint64_t call_correct(const struct job *job, uint8_t *copy)
 {
     const struct given *given = job->given;
     uint64_t count;
-    uint64_t word = given->calls->correct(job->p, SLOPE, copy, job->length, given->sheet, given->sheet_length, &count);
+    uint64_t word = given->calls->correct(CF_NEW, job->p, SLOPE, copy, job->length, given->sheet, given->sheet_length, &count);
 
     return word == 0 ? count : UINT64_MAX;
 }

@@ -3,8 +3,8 @@
  *
  * A tile holds a text and two columns of checks. If one row or one column of it is hurt, cf_repair finds the line and puts it right
  * without being told which; if that was a single byte, it finds the very cell. If one or two lines are lost and you know which, cf_fill
- * fills them in. cf_correct changes single bytes of the text on a tile that may itself be hurt. Where there is no answer, a call says so by
- * a number and touches nothing.
+ * fills them in. cf_correct changes single bytes of the text on a tile that may itself be hurt. Where there is no answer, or on an old tile
+ * more than one, a call says so by a number and touches nothing.
  *
  * SIZES AND SLOPES
  *   The size p says how large a tile is: one byte less than p in each direction, so that size 5 is a tile of 4 by 4 bytes, and 257 one of
@@ -15,8 +15,19 @@
  *   the tile agreed on another: a tile is read and repaired with the size and the slope that it was written with. Which other slopes
  *   there are is told by cf_takes. docs/SPEC.md has the rules.
  *
+ * NEW TILES AND OLD ONES
+ *   Each call that is told p and l is told the kind of the tile before them. Take CF_NEW for all that you write: such a tile has one of the
+ *   slopes that are allowed at p, and a lost row with a lost column has one filling there or none. CF_OLD is for tiles that were printed in
+ *   earlier years, and takes every slope from 2 to p-2. Any number but 1 counts as CF_NEW, the stricter one. A reel carries the kind with
+ *   each tile, and cf_next gives it.
+ *   At a slope that is not allowed, a lost row with a lost column has no filling or several, and never just one; and now and then damage
+ *   can be put right in two ways, by a column and by a row, which gives two different tiles. Such a call is refused with 8, and the tile
+ *   stays as it was: the projectionist's old reader took the first of two fillings. All other damage, two lost rows or two lost columns
+ *   among it, is put right as on a new tile.
+ *   Where cf_takes(CF_NEW, p, l) is done, both kinds are answered alike, in every call. Calls with CF_NEW are never answered 8.
+ *
  * ANSWERS
- *   Every call but cf_version answers one 64-bit word: a kind, and two numbers. cf_kind, cf_first and cf_second take it apart.
+ *   Every call but cf_version answers one 64-bit word: a kind of answer, and two numbers. cf_kind, cf_first and cf_second take it apart.
  *
  *     kind              first         second        means
  *     CF_KIND_DONE      0             0             done; for cf_repair: nothing was hurt; for cf_next: a tile stands here
@@ -31,18 +42,24 @@
  *   was written for such a version has to take CF_KIND_CELL too, which has the column as its second number. All else that is answered, and
  *   all bytes of a repaired tile, are as they were.
  *
+ *   Up to version 0.3.0 there were no old tiles. A program that was written for it has to give CF_NEW as the first argument of cf_takes,
+ *   cf_write, cf_read, cf_repair, cf_fill and cf_correct, and is then answered what it was answered before. cf_next has one number more,
+ *   the kind, which comes before the others and is the one to give for that tile; a record that begins with 5D D5 was refused 6 before, and
+ *   is an old tile now.
+ *
  * REFUSALS
  *   A refused call changes no byte of a tile or text. Its number says why, and cf_refusal_words has words for it. Where several apply, the
  *   one that the call's own text below names first is given.
  *
  *     1 CF_BAD_SIZE     p is not a size
- *     2 CF_BAD_SLOPE    l is not a slope that can be used at p
+ *     2 CF_BAD_SLOPE    l is not a slope that the kind can use at p
  *     3 CF_BAD_LENGTH   a tile or a text has another length than p asks for
  *     4 CF_BAD_PLACE    the tile does not have a line to be filled (they end at p-2), or the text does not have a place to be corrected (its
  *                       rows end at p-2, its columns at p-4)
- *     5 CF_DAMAGED      cf_read: the tile is not good; cf_repair, cf_fill: no repair of that kind exists
- *     6 CF_BAD_MARK     a record of a sheet or of a reel does not begin with its mark
+ *     5 CF_DAMAGED      cf_read: the tile is not good; cf_repair, cf_fill: no such repair exists
+ *     6 CF_BAD_MARK     a record of a sheet does not begin with its mark, or one of a reel with neither of its two
  *     7 CF_CUT_SHORT    a sheet or a reel ends within a record
+ *     8 CF_DOUBTFUL     cf_repair, cf_fill, of an old tile: two different good tiles would do, and nothing tells which was printed
  *
  * WHO OWNS WHAT
  *   All memory is yours. A call uses it until it returns, and keeps no pointer; it allocates nothing, and holds no state, so calls may
@@ -66,8 +83,12 @@ extern "C" {
 
 /* The version of this header: 10000 times the first of its numbers, 100 times the second, and the third. cf_version gives that of the
  * library. Until 1.0.0 calls may change where the second number does; the shared library is named by these two. */
-#define CF_VERSION 300
-#define CF_VERSION_TEXT "0.3.0"
+#define CF_VERSION 400
+#define CF_VERSION_TEXT "0.4.0"
+
+/* The kinds of a tile, which a call is told before p and l, and which cf_next gives back. Any number but 1 counts as new. */
+#define CF_NEW 0u
+#define CF_OLD 1u
 
 /* The kinds of an answer. The lines that cf_fill is given are named by cf_row and cf_column, further below, and not by these. */
 #define CF_KIND_DONE 0u
@@ -85,63 +106,69 @@ extern "C" {
 #define CF_DAMAGED 5u
 #define CF_BAD_MARK 6u
 #define CF_CUT_SHORT 7u
+#define CF_DOUBTFUL 8u
 
 /* The version of the library, a number as CF_VERSION is. */
 uint64_t cf_version(void);
 
-/* The house slope of the size p: the least one that can be used there. CF_KIND_DONE with the slope, or refused 1. */
+/* The house slope of the size p: the least one that a new tile can use there. CF_KIND_DONE with the slope, or refused 1. */
 uint64_t cf_house_slope(size_t p);
 
-/* Whether p is a size and l a slope that can be used there; no tile is needed to ask. CF_KIND_DONE, or refused 1 or 2. */
-uint64_t cf_takes(size_t p, size_t l);
+/* Whether p is a size, and l a slope that a tile of this kind, CF_NEW or CF_OLD, can use there; no tile is needed to ask. CF_KIND_DONE, or
+ * refused 1 or 2. */
+uint64_t cf_takes(size_t kind, size_t p, size_t l);
 
 /* Writes the good tile that has the text; what the tile held before does not matter. CF_KIND_DONE, or refused 1, 2 or 3. */
-uint64_t cf_write(size_t p, size_t l, const uint8_t *text, size_t text_len, uint8_t *tile, size_t tile_len);
+uint64_t cf_write(size_t kind, size_t p, size_t l, const uint8_t *text, size_t text_len, uint8_t *tile, size_t tile_len);
 
 /* Reads the text out of a good tile. CF_KIND_DONE, or refused 1, 2, 3, or 5 for a tile that is not good: repair that one first. */
-uint64_t cf_read(size_t p, size_t l, const uint8_t *tile, size_t tile_len, uint8_t *text, size_t text_len);
+uint64_t cf_read(size_t kind, size_t p, size_t l, const uint8_t *tile, size_t tile_len, uint8_t *text, size_t text_len);
 
 /*
  * Repairs a tile of which one column or one row may be hurt. CF_KIND_DONE: it is good, and was not touched. Otherwise it becomes the good
- * tile that can be had by changing one line alone; there are never two of them. The answer says what had to change for it. CF_KIND_CELL:
+ * tile that can be had by changing one line alone, where there is exactly one. The answer says what had to change for it. CF_KIND_CELL:
  * one byte, in this row and this column. CF_KIND_COLUMN or CF_KIND_ROW: two bytes or more, which all stand on this line. Refused 1, 2, 3,
- * or 5 where no line can be put right so that the tile is good.
+ * or 5 where no line can be put right so that the tile is good; or 8 where a column and a row can, and give two different good tiles. This
+ * last happens to an old tile alone, at a slope that is not allowed, and then to few.
  *
  * A repaired tile is always good. If more than one line was hurt it may be another good tile than the one that was printed, and no reader
  * could tell: if you know the lines, use cf_fill.
  */
-uint64_t cf_repair(size_t p, size_t l, uint8_t *tile, size_t tile_len);
+uint64_t cf_repair(size_t kind, size_t p, size_t l, uint8_t *tile, size_t tile_len);
 
 /*
  * Fills one or two lost lines, whatever bytes they hold now. Each line is named by cf_row(3) or cf_column(3), ALWAYS: a bare number is taken
  * for a row, and a column is 8000 hex plus its number. For one line, name it twice. The tile becomes the only good one that is the same
- * outside these lines. CF_KIND_DONE, or refused 1, 2, 3, 4 for a line that the tile does not have, or 5 where there is no such tile. Two
- * rows, or two columns, can always be filled.
+ * outside these lines. CF_KIND_DONE, or refused 1, 2, 3, 4 for a line that the tile does not have, 5 where there is no such tile, or 8
+ * where there are several. Two rows, or two columns, can always be filled, on old tiles too. A row with a column of an old tile whose slope
+ * is not allowed never can: it is refused with 5 or 8, whatever the bytes.
  */
-uint64_t cf_fill(size_t p, size_t l, uint8_t *tile, size_t tile_len, size_t first, size_t second);
+uint64_t cf_fill(size_t kind, size_t p, size_t l, uint8_t *tile, size_t tile_len, size_t first, size_t second);
 
 /*
  * Corrects the text of a tile by a sheet: records of 8 bytes, one behind the other, as cf_lay_correction lays them. The tile need not be
  * good: each record changes its cell, and the check columns, by the difference of its two bytes, so that what was hurt before can be
- * repaired as before. What "was" says is not compared with the tile.
+ * repaired as before, and what was doubtful stays so. What "was" says is not compared with the tile.
  *
  * CF_KIND_DONE, with the number of records in *count_or_offset. Refused 1, 2, 3 or 7, with 0 there; or 6 or 4, with the offset of the first
  * faulty record (6 if that record has both faults). Nothing is changed before all records are judged. *count_or_offset is set by every
  * call.
  */
-uint64_t cf_correct(size_t p, size_t l, uint8_t *tile, size_t tile_len, const uint8_t *sheet, size_t sheet_len,
+uint64_t cf_correct(size_t kind, size_t p, size_t l, uint8_t *tile, size_t tile_len, const uint8_t *sheet, size_t sheet_len,
                     uint64_t *count_or_offset);
 
 /*
- * Says what stands at a place of a reel. A reel is a run of records without gaps, each the mark D5 5D, p (2 bytes, the high one first),
- * l (2 bytes), the tile's number (4 bytes), and the tile's bytes. A place is an offset from the beginning of the reel; begin with 0.
+ * Says what stands at a place of a reel. A reel is a run of records without gaps, each a mark (D5 5D for a new tile, 5D D5 for an old one),
+ * p (2 bytes, the high one first), l (2 bytes), the tile's number (4 bytes), and the tile's bytes. A place is an offset from the beginning
+ * of the reel; begin with 0.
  *
- * CF_KIND_DONE: a tile. You get its number, its p and l, and the offset where its bytes begin; the next record is at that offset plus
- * cf_tile_len(p). CF_KIND_END: the reel has no byte at the place. Refused 7 (the header, of 10 bytes, is cut), 6, 1, 2, or 7 (the tile is
- * cut), with the place itself in *offset. All four numbers are set by every call, to 0 where there is no value. The tile is not judged: it
- * may be hurt. To repair it, copy its bytes first, or let the reel be yours to change.
+ * CF_KIND_DONE: a tile. You get its kind, CF_NEW or CF_OLD, its number, its p and l, and the offset where its bytes begin; the next record
+ * is at that offset plus cf_tile_len(p). CF_KIND_END: the reel has no byte at the place. Refused 7 (the header, of 10 bytes, is cut), 6, 1,
+ * 2 (by the kind that the mark says), or 7 (the tile is cut), with the place itself in *offset. All five numbers are set by every call, to
+ * 0 where there is no value. The tile is not judged: it may be hurt. To repair it, copy its bytes first, or let the reel be yours to change.
  */
-uint64_t cf_next(const uint8_t *reel, size_t reel_len, size_t at, uint64_t *number, uint64_t *p, uint64_t *l, uint64_t *offset);
+uint64_t cf_next(const uint8_t *reel, size_t reel_len, size_t at, uint64_t *kind, uint64_t *number, uint64_t *p, uint64_t *l,
+                 uint64_t *offset);
 
 /* The kind of an answer, and its two numbers. */
 static inline unsigned cf_kind(uint64_t answer) { return (unsigned)(answer >> 32); }
@@ -162,7 +189,7 @@ static inline const char *cf_refusal_words(unsigned refusal)
     case CF_BAD_SIZE:
         return "the size is not one of the primes between 5 and 257";
     case CF_BAD_SLOPE:
-        return "the slope cannot be used at this size";
+        return "the slope cannot be used at this size by a tile of this kind";
     case CF_BAD_LENGTH:
         return "a tile or a text does not have the length of this size";
     case CF_BAD_PLACE:
@@ -170,9 +197,11 @@ static inline const char *cf_refusal_words(unsigned refusal)
     case CF_DAMAGED:
         return "the tile is damaged: no such repair exists, or it has to be repaired before it is read";
     case CF_BAD_MARK:
-        return "a record does not begin with its mark";
+        return "a record does not begin with a mark";
     case CF_CUT_SHORT:
         return "a sheet or a reel ends within a record";
+    case CF_DOUBTFUL:
+        return "the tile is doubtful: two different good tiles would do, and nothing tells which was printed";
     default:
         return "no refusal has this number";
     }

@@ -9,7 +9,7 @@ from pathlib import Path
 
 sys.path.insert(0, sys.argv[1] + "/python")
 
-from counterfrost import WORDS, Counterfrost, Refused, column, correction, row
+from counterfrost import NEW, OLD, WORDS, Counterfrost, Refused, column, correction, row
 
 library = Counterfrost(sys.argv[2])
 version = sys.argv[3]
@@ -28,12 +28,16 @@ def refusal(call, *arguments):
 REEL = bytes.fromhex("D55D0005000200000007" + "00" * 16 + "D55D0005000200000008" + "00" * 11 + "41" + "00" * 4 + "00")
 
 
-def walk():
-    """The tiles of the reel up to its refusal, and that."""
+# An old record and a new one: worked tile 16 of SPEC 10, and zeros.
+OLD_REEL = bytes.fromhex("5DD50007000200000010" + "00" * 7 + "01" + "00" * 28 + "D55D0007000300000011" + "00" * 36)
+
+
+def walk(reel):
+    """The tiles of a reel up to its refusal, and that."""
     listed = []
     try:
-        for number, p, l, tile in library.tiles(REEL):
-            listed.append((number, p, l, library.repair(p, l, tile)))
+        for kind, number, p, l, tile in library.tiles(reel):
+            listed.append((kind, number, p, l, library.repair(kind, p, l, tile)))
     except Refused as no:
         return listed, (no.number, no.offset)
     return listed, None
@@ -42,8 +46,16 @@ def walk():
 def repaired(*ones):
     """What repair says of a tile of zeros with some ones, of which it makes zeros."""
     tile = bytearray(int(k in ones) for k in range(16))
-    said = library.repair(5, 2, tile)
+    said = library.repair(NEW, 5, 2, tile)
     return said if tile == bytes(16) else tile
+
+
+def doubted(call, *ones):
+    """The refusal of an old tile, at 7 and slope 2, of zeros with some ones, if it is left as it was."""
+    tile = bytearray(int(k in ones) for k in range(36))
+    lent = bytes(tile)
+    said = refusal(call, OLD, 7, 2, tile, *([row(0), column(0)] if call == library.fill else []))
+    return said if tile == lent else tile
 
 
 HEADER = (Path(sys.argv[2]).parent.parent / "include" / "counterfrost.h").read_text()
@@ -54,19 +66,25 @@ checks = {
     "the header's words": (list(WORDS.values()), re.findall(r'case CF_[A-Z_]+:\s+return "([^"]+)"', HEADER)),
     "no size": ([refusal(library.house_slope, p) for p in (0, 4, 258, -1, 2**64 + 5)], [(1, 0)] * 5),
     "sizes": ([library.house_slope(p) for p in (5, 7, 191, 257)], [2, 3, 19, 3]),
-    "no slope": ([refusal(library.check, 7, l) for l in (2, 6, 10, -1, 2**64 + 3)], [(2, 0)] * 5),
-    "slopes": ([refusal(library.check, 7, l) for l in (3, 5)], [None, None]),
-    "no size to write or read": ([refusal(library.write, 2, 2, b""), refusal(library.read, 2**70, 2, b"")], [(1, 0)] * 2),
-    "no length": ([refusal(library.write, 5, 2, b""), refusal(library.repair, 5, 2, bytearray(15))], [(3, 0)] * 2),
-    "no line": ([refusal(library.fill, 5, 2, bytearray(16), a, row(0)) for a in (row(4), column(4), row(-1), row(2**70))], [(4, 0)] * 4),
-    "no place": (refusal(library.correct, 5, 2, zeros, correction(0, 1, 0, 1) + correction(0, 2, 0, 1)), (4, 8)),
-    "no place at all": (refusal(library.correct, 5, 2, zeros, correction(2**70, -1, 0, 1)), (4, 0)),
+    "no slope": ([refusal(library.check, NEW, 7, l) for l in (2, 6, 10, -1, 2**64 + 3)], [(2, 0)] * 5),
+    "slopes": ([refusal(library.check, NEW, 7, l) for l in (3, 5)], [None, None]),
+    "old slopes": ([refusal(library.check, OLD, 7, l) for l in range(1, 7)], [(2, 0), None, None, None, None, (2, 0)]),
+    "no old kind": ([refusal(library.check, kind, 7, 2) for kind in (2, -1, 2**32 + 1, 2**64 + 1)], [(2, 0)] * 4),
+    "no size to write or read": ([refusal(library.write, NEW, 2, 2, b""), refusal(library.read, OLD, 2**70, 2, b"")], [(1, 0)] * 2),
+    "no length": ([refusal(library.write, NEW, 5, 2, b""), refusal(library.repair, NEW, 5, 2, bytearray(15))], [(3, 0)] * 2),
+    "no line": ([refusal(library.fill, NEW, 5, 2, bytearray(16), a, row(0)) for a in (row(4), column(4), row(-1))], [(4, 0)] * 3),
+    "no line at all": (refusal(library.fill, NEW, 5, 2, bytearray(16), row(2**70), row(0)), (4, 0)),
+    "no place": (refusal(library.correct, NEW, 5, 2, zeros, correction(0, 1, 0, 1) + correction(0, 2, 0, 1)), (4, 8)),
+    "no place at all": (refusal(library.correct, NEW, 5, 2, zeros, correction(2**70, -1, 0, 1)), (4, 0)),
     "nothing was changed": (zeros, bytes(16)),
-    "an empty sheet": (library.correct(5, 2, zeros, b""), 0),
-    "not good": (refusal(library.read, 5, 2, b"\x01" + bytes(15)), (5, 0)),
-    "worked tile 1": (library.write(5, 2, bytes([1] + [0] * 7)).hex(), "01000001000001010000010000000100"),
-    "the whole reel": (walk(), ([(7, 5, 2, None), (8, 5, 2, ("cell", 2, 3))], (7, 52))),
+    "an empty sheet": (library.correct(NEW, 5, 2, zeros, b""), 0),
+    "not good": (refusal(library.read, NEW, 5, 2, b"\x01" + bytes(15)), (5, 0)),
+    "worked tile 1": (library.write(NEW, 5, 2, bytes([1] + [0] * 7)).hex(), "01000001000001010000010000000100"),
+    "the whole reel": (walk(REEL), ([(NEW, 7, 5, 2, None), (NEW, 8, 5, 2, ("cell", 2, 3))], (7, 52))),
+    "a reel of both kinds": (walk(OLD_REEL), ([(OLD, 16, 7, 2, ("cell", 1, 1)), (NEW, 17, 7, 3, None)], None)),
     "worked tiles 4 to 6": ([repaired(11), repaired(0, 4), repaired(0, 1)], [("cell", 2, 3), ("column", 0), ("row", 0)]),
+    "worked tiles 13 and 14": ([doubted(library.fill), doubted(library.repair, 6, 12, 24)], [(8, 0)] * 2),
+    "worked tile 15": (doubted(library.fill, 7), (5, 0)),
     "the empty reel": (list(library.tiles(b"")), []),
 }
 wrong = {name: got for name, (got, asked) in checks.items() if got != asked}

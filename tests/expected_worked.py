@@ -9,18 +9,19 @@ sys.dont_write_bytecode = True  # leave no files beside the sources
 from pathlib import Path  # noqa: E402
 
 from expected import edge, paper, tiles  # noqa: E402
-from expected.reel import WHOLE_PLACES, WHOLE_REEL  # noqa: E402
+from expected.reel import MIXED_PLACES, MIXED_REEL, WHOLE_PLACES, WHOLE_REEL  # noqa: E402
 from expected.script import run  # noqa: E402
+from expected.sizes import NEW  # noqa: E402
 
 SCRIPT = Path(__file__).resolve().parent.parent / "crates/worked/stdin"
 
 printed, asked = run(SCRIPT.read_text(encoding="ascii"))
 
 
-def says(name, p, l, held, lent, answer=None, left=None, lines=(), begins=""):
+def says(name, p, l, held, lent, answer=None, left=None, lines=(), begins="", kind=NEW):
     """The script asks this, and the answer is this, or begins with this, and leaves these bytes, as far as they are given."""
-    found = [(said, kept) for one, said, kept in asked if one == (name, p, l, lines, held, lent)]
-    assert found, f"the script does not ask {name} {p} {l} {lines} of {held} and {lent}"
+    found = [(said, kept) for one, said, kept in asked if one == (name, kind, p, l, lines, held, lent)]
+    assert found, f"the script does not ask {name} {kind.name} {p} {l} {lines} of {held} and {lent}"
     for said, kept in found:
         assert said.startswith(begins), f"{name} {p} {l} of {held}: {said} worked out, {begins} said"
         assert answer in (None, said), f"{name} {p} {l} of {held}: {said} worked out, {answer} said"
@@ -30,6 +31,7 @@ def says(name, p, l, held, lent, answer=None, left=None, lines=(), begins=""):
 tiles.hold(says)
 edge.hold(says)
 paper.hold(says)
-for at, stands in WHOLE_PLACES.items():
-    says("place", at, 0, list(WHOLE_REEL), [], left=list(WHOLE_REEL), begins=stands)
+for reel, places in ((WHOLE_REEL, WHOLE_PLACES), (MIXED_REEL, MIXED_PLACES)):
+    for at, stands in places.items():
+        says("place", at, 0, list(reel), [], left=list(reel), begins=stands)
 print(printed, end="")

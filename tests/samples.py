@@ -10,13 +10,14 @@ sys.dont_write_bytecode = True  # leave no files beside the sources
 
 from pathlib import Path  # noqa: E402
 
-from expected import long_reel  # noqa: E402
+from expected import long_reel, projectionist  # noqa: E402
 from expected.reel import WHOLE_REEL, listing  # noqa: E402
 
 TOP = Path(__file__).resolve().parent.parent
 PAGE = "samples/README.md"
-HEADS = ("record", "offset", "number", "p", "l", "what was done to it", "the line it must give")
-MOST = 40000  # the long reel stays below so many bytes
+LONG_HEADS = ("record", "offset", "number", "p", "l", "what was done to it", "the line it must give")
+OLD_HEADS = ("record", "offset", "kind", *LONG_HEADS[2:])
+MOST = 40000  # the reels stay below so many bytes
 
 
 def row(fields):
@@ -24,30 +25,39 @@ def row(fields):
     return f"| {' | '.join(map(str, fields))} |"
 
 
-def table():
-    """The table of the long reel's records."""
-    records = [row((*fields, f"`{line}`")) for *fields, line in long_reel.rows()]
-    return "\n".join([row(HEADS), f"|{'---|' * len(HEADS)}", *records])
+def table(heads, rows):
+    """The table of a reel's records."""
+    records = [row((*fields, f"`{line}`")) for *fields, line in rows]
+    return "\n".join([row(heads), f"|{'---|' * len(heads)}", *records])
 
 
-def with_table(page):
-    """The page with the table in place of the one that it has."""
-    before, found, behind = page.partition(row(HEADS))
-    assert found, f"{PAGE} has no table of records"
+def with_table(page, heads, rows):
+    """The page with the table in place of the one that it has under these heads."""
+    before, found, behind = page.partition(row(heads))
+    assert found, f"{PAGE} has no table of {', '.join(heads)}"
     _, _, after = behind.partition("\n\n")
-    return f"{before}{table()}\n\n{after}"
+    return f"{before}{table(heads, rows)}\n\n{after}"
+
+
+def page():
+    """The page about the samples, with both tables."""
+    kept = (TOP / PAGE).read_text(encoding="utf-8")
+    kept = with_table(kept, LONG_HEADS, long_reel.rows())
+    return with_table(kept, OLD_HEADS, [fields for _, *fields in projectionist.rows()])
 
 
 def files():
     """What each file has to hold."""
-    long = long_reel.reel()
-    assert len(long) < MOST
+    long, old = long_reel.reel(), projectionist.reel()
+    assert len(long) < MOST and len(old) < MOST
     return {
         "samples/short.reel": WHOLE_REEL,
         "samples/long.reel": long,
+        "samples/projectionist.reel": old,
+        "samples/projectionist.expected": projectionist.LISTING.encode(),
         "crates/list/stdin": long,
         "crates/list/stdout": listing(long).encode(),
-        PAGE: with_table((TOP / PAGE).read_text(encoding="utf-8")).encode(),
+        PAGE: page().encode(),
     }
 
 

@@ -9,7 +9,7 @@
 #include <stdlib.h>
 #include <string.h>
 
-/* A tile of size 17: 16 rows of 16 bytes, of which 14 are text. */
+/* A new tile of size 17: 16 rows of 16 bytes, of which 14 are text. */
 enum { SIZE = 17, ROWS = SIZE - 1, COLUMNS = SIZE - 1, TEXT_COLUMNS = SIZE - 3, TILE = ROWS * COLUMNS, TEXT = ROWS * TEXT_COLUMNS };
 
 static const char *const CAPTION = "- Who let the boat go?\n- The ferryman, at noom.\n- Then who is that on the far shore?";
@@ -54,7 +54,7 @@ static void dust(uint8_t tile[TILE], size_t row, size_t column)
 /* Repairs the tile, and says what was hurt. */
 static void repair(size_t slope, uint8_t tile[TILE])
 {
-    uint64_t answer = accepted("cf_repair", cf_repair(SIZE, slope, tile, TILE));
+    uint64_t answer = accepted("cf_repair", cf_repair(CF_NEW, SIZE, slope, tile, TILE));
     switch (cf_kind(answer)) {
     case CF_KIND_COLUMN:
         printf("repaired: column %u\n", cf_first(answer));
@@ -79,17 +79,17 @@ int main(void)
     size_t slope = cf_first(accepted("cf_house_slope", cf_house_slope(SIZE)));
 
     lay_caption(text);
-    accepted("cf_write", cf_write(SIZE, slope, text, TEXT, tile, TILE));
+    accepted("cf_write", cf_write(CF_NEW, SIZE, slope, text, TEXT, tile, TILE));
     printf("written: size %d, slope %u\n", SIZE, (unsigned)slope);
 
     splice(tile, 4);
     scratch(tile, 9);
-    accepted("cf_fill", cf_fill(SIZE, slope, tile, TILE, cf_row(4), cf_column(9)));
+    accepted("cf_fill", cf_fill(CF_NEW, SIZE, slope, tile, TILE, cf_row(4), cf_column(9)));
     printf("filled: row 4 and column 9\n");
 
     scratch(tile, wrong_letter % TEXT_COLUMNS);
     cf_lay_correction(sheet, wrong_letter / TEXT_COLUMNS, wrong_letter % TEXT_COLUMNS, 'm', 'n');
-    accepted("cf_correct", cf_correct(SIZE, slope, tile, TILE, sheet, sizeof sheet, &records));
+    accepted("cf_correct", cf_correct(CF_NEW, SIZE, slope, tile, TILE, sheet, sizeof sheet, &records));
     printf("corrected: %u letter\n", (unsigned)records);
 
     repair(slope, tile);
@@ -97,7 +97,7 @@ int main(void)
     dust(tile, 5, 12);
     repair(slope, tile);
 
-    accepted("cf_read", cf_read(SIZE, slope, tile, TILE, text, TEXT));
+    accepted("cf_read", cf_read(CF_NEW, SIZE, slope, tile, TILE, text, TEXT));
     printf("read:\n%.*s\n", (int)strlen(CAPTION), (const char *)text);
     return EXIT_SUCCESS;
 }

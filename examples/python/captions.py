@@ -6,9 +6,9 @@
 import sys
 
 import counterfrost
-from counterfrost import Counterfrost, column, correction, row, text_length
+from counterfrost import NEW, Counterfrost, column, correction, row, text_length
 
-# A tile of size 17: 16 rows of 16 bytes, of which 14 are text.
+# A new tile of size 17: 16 rows of 16 bytes, of which 14 are text.
 SIZE = 17
 ROWS = COLUMNS = SIZE - 1
 TEXT_COLUMNS = SIZE - 3
@@ -34,7 +34,7 @@ def dust(tile, i, j):
 
 def repair(library, slope, tile):
     """Repairs the tile, and says what was hurt."""
-    hurt = library.repair(SIZE, slope, tile)
+    hurt = library.repair(NEW, SIZE, slope, tile)
     if hurt:
         print("repaired:", *hurt)
     else:
@@ -45,25 +45,25 @@ def main():
     library = Counterfrost(*sys.argv[1:])
     slope = library.house_slope(SIZE)
 
-    tile = library.write(SIZE, slope, CAPTION.ljust(text_length(SIZE)))
+    tile = library.write(NEW, SIZE, slope, CAPTION.ljust(text_length(SIZE)))
     print(f"written: size {SIZE}, slope {slope}")
 
     splice(tile, 4)
     scratch(tile, 9)
-    library.fill(SIZE, slope, tile, row(4), column(9))
+    library.fill(NEW, SIZE, slope, tile, row(4), column(9))
     print("filled: row 4 and column 9")
 
     wrong_letter = CAPTION.index(b"noom") + 3
     scratch(tile, wrong_letter % TEXT_COLUMNS)
     sheet = correction(*divmod(wrong_letter, TEXT_COLUMNS), ord("m"), ord("n"))
-    print(f"corrected: {library.correct(SIZE, slope, tile, sheet)} letter")
+    print(f"corrected: {library.correct(NEW, SIZE, slope, tile, sheet)} letter")
 
     repair(library, slope, tile)
 
     dust(tile, 5, 12)
     repair(library, slope, tile)
 
-    print("read:", library.read(SIZE, slope, tile)[: len(CAPTION)].decode(), sep="\n")
+    print("read:", library.read(NEW, SIZE, slope, tile)[: len(CAPTION)].decode(), sep="\n")
 
 
 if __name__ == "__main__":

@@ -1,22 +1,27 @@
 """The calls of include/counterfrost.h for Python, by ctypes, from the shared library.
 
-Texts, sheets and reels come in as bytes, and tiles that a call may change as bytearrays; a refusal is raised as Refused.
+Texts, sheets and reels come in as bytes, and tiles that a call may change as bytearrays; a refusal is raised as Refused. A call that is
+told a size and a slope is told the kind of the tile first, NEW or OLD.
 """
 
 import ctypes
 import platform
 from ctypes import byref, c_size_t, c_uint8, c_uint64
 
-NAMED_AS = "libcounterfrost.so.0.3"  # the calls below are those of this version
+NAMED_AS = "libcounterfrost.so.0.4"  # the calls below are those of this version
+
+NEW = 0  # takes the slopes that are allowed at its size
+OLD = 1  # takes every slope from 2 to p-2; where the slope is not allowed, a repair or a filling may be doubtful, which is refused 8
 
 WORDS = {
     1: "the size is not one of the primes between 5 and 257",
-    2: "the slope cannot be used at this size",
+    2: "the slope cannot be used at this size by a tile of this kind",
     3: "a tile or a text does not have the length of this size",
     4: "the tile does not have that line, or its text that place",
     5: "the tile is damaged: no such repair exists, or it has to be repaired before it is read",
-    6: "a record does not begin with its mark",
+    6: "a record does not begin with a mark",
     7: "a sheet or a reel ends within a record",
+    8: "the tile is doubtful: two different good tiles would do, and nothing tells which was printed",
 }
 
 
@@ -80,58 +85,56 @@ class Counterfrost:
         """The slope to use at the size p, if nothing else is agreed."""
         return self._ask("cf_house_slope", _number(p))[1]
 
-    def check(self, p, l):
-        """Raises Refused unless p is a size and l a slope that can be used there."""
-        self._ask("cf_takes", _number(p), _number(l))
+    def check(self, kind, p, l):
+        """Raises Refused unless p is a size and l a slope that the kind can use there."""
+        self._ask("cf_takes", _number(kind), _number(p), _number(l))
 
-    def write(self, p, l, text):
+    def write(self, kind, p, l, text):
         """The good tile that has the text."""
-        self.check(p, l)
+        self.check(kind, p, l)
         tile = bytearray(tile_length(p))
-        self._ask("cf_write", _number(p), _number(l), *_read_only(text), *_lent(tile))
+        self._ask("cf_write", _number(kind), _number(p), _number(l), *_read_only(text), *_lent(tile))
         return tile
 
-    def read(self, p, l, tile):
+    def read(self, kind, p, l, tile):
         """The text out of a good tile."""
-        self.check(p, l)
+        self.check(kind, p, l)
         text = bytearray(text_length(p))
-        self._ask("cf_read", _number(p), _number(l), *_read_only(tile), *_lent(text))
+        self._ask("cf_read", _number(kind), _number(p), _number(l), *_read_only(tile), *_lent(text))
         return bytes(text)
 
-    def repair(self, p, l, tile):
+    def repair(self, kind, p, l, tile):
         """Puts one hurt column or row right, in place, and names what was hurt: ("cell", 2, 3), by row and column, where it was one byte;
         ("column", 3) or ("row", 1) where it was more; None where it was nothing."""
-        kind, first, second = self._ask("cf_repair", _number(p), _number(l), *_lent(tile))
-        return {0: None, 1: ("column", first), 2: ("row", first), 3: ("cell", first, second)}[kind]
+        answered, first, second = self._ask("cf_repair", _number(kind), _number(p), _number(l), *_lent(tile))
+        return {0: None, 1: ("column", first), 2: ("row", first), 3: ("cell", first, second)}[answered]
 
-    def fill(self, p, l, tile, first, second):
+    def fill(self, kind, p, l, tile, first, second):
         """Fills one or two lost lines, in place; one line is named twice."""
-        self._ask("cf_fill", _number(p), _number(l), *_lent(tile), _number(first), _number(second))
+        self._ask("cf_fill", _number(kind), _number(p), _number(l), *_lent(tile), _number(first), _number(second))
 
-    def correct(self, p, l, tile, sheet):
+    def correct(self, kind, p, l, tile, sheet):
         """Corrects a tile, sound or damaged, by a sheet, in place, and counts its records."""
         told = c_uint64()
         try:
-            self._ask("cf_correct", _number(p), _number(l), *_lent(tile), *_read_only(sheet), byref(told))
+            self._ask("cf_correct", _number(kind), _number(p), _number(l), *_lent(tile), *_read_only(sheet), byref(told))
         except Refused as no:
             raise Refused(no.number, told.value) from None
         return told.value
 
     def tiles(self, reel):
-        """The tiles of a reel of any length, one after the other: number, p, l, and a copy of the tile, which repair may change."""
+        """The tiles of a reel of any length, one after the other: kind, number, p, l, and a copy of the tile, which repair may change."""
         at = 0
         while True:
-            number, p, l, offset = c_uint64(), c_uint64(), c_uint64(), c_uint64()
+            numbers = kind, number, p, l, offset = [c_uint64() for _ in range(5)]
             try:
-                kind, *_ = self._ask(
-                    "cf_next", *_read_only(reel), _number(at), byref(number), byref(p), byref(l), byref(offset)
-                )
+                answered, *_ = self._ask("cf_next", *_read_only(reel), _number(at), *map(byref, numbers))
             except Refused as no:
                 raise Refused(no.number, offset.value) from None
-            if kind == 7:
+            if answered == 7:
                 return
             at = offset.value + tile_length(p.value)
-            yield number.value, p.value, l.value, bytearray(reel[offset.value : at])
+            yield kind.value, number.value, p.value, l.value, bytearray(reel[offset.value : at])
 
 
 def _two_bytes(n):
@@ -140,7 +143,7 @@ def _two_bytes(n):
 
 
 def _number(n):
-    """A number as C takes it. One that C does not have is given as the largest, which is no size, slope, line or place."""
+    """A number as C takes it. One that C does not have is given as the largest, which is no size, slope, line or place, and no old kind."""
     return c_size_t(n if 0 <= n < 2**64 else 2**64 - 1)
 
 

@@ -1,9 +1,9 @@
 //! The life of one tile, as examples/c/captions.c tells it, from Rust.
 mod counterfrost;
 
-use counterfrost::{Hurt, Line, Refused};
+use counterfrost::{Hurt, Kind, Line, Refused};
 
-/// A tile of size 17: 16 rows of 16 bytes, of which 14 are text.
+/// A new tile of size 17: 16 rows of 16 bytes, of which 14 are text.
 const SIZE: usize = 17;
 const ROWS: usize = SIZE - 1;
 const COLUMNS: usize = SIZE - 1;
@@ -25,7 +25,7 @@ fn dust(tile: &mut [u8], row: usize, column: usize) {
 
 /// Repairs the tile, and says what was hurt.
 fn repair(slope: usize, tile: &mut [u8]) -> Result<(), Refused> {
-    match counterfrost::repair(SIZE, slope, tile)? {
+    match counterfrost::repair(Kind::New, SIZE, slope, tile)? {
         Some(Hurt::Line(Line::Column(column))) => println!("repaired: column {column}"),
         Some(Hurt::Line(Line::Row(row))) => println!("repaired: row {row}"),
         Some(Hurt::Cell { row, column }) => println!("repaired: cell {row} {column}"),
@@ -39,19 +39,19 @@ fn main() -> Result<(), Refused> {
     let mut text = [b' '; ROWS * TEXT_COLUMNS];
     text[..CAPTION.len()].copy_from_slice(CAPTION.as_bytes());
     let mut tile = [0; ROWS * COLUMNS];
-    counterfrost::write(SIZE, slope, &text, &mut tile)?;
+    counterfrost::write(Kind::New, SIZE, slope, &text, &mut tile)?;
     println!("written: size {SIZE}, slope {slope}");
 
     tile[4 * COLUMNS..5 * COLUMNS].fill(0);
     scratch(&mut tile, 9);
-    counterfrost::fill(SIZE, slope, &mut tile, Line::Row(4), Line::Column(9))?;
+    counterfrost::fill(Kind::New, SIZE, slope, &mut tile, Line::Row(4), Line::Column(9))?;
     println!("filled: row 4 and column 9");
 
     let wrong_letter = CAPTION.find("noom").unwrap() + 3;
     let (row, column) = (wrong_letter / TEXT_COLUMNS, wrong_letter % TEXT_COLUMNS);
     scratch(&mut tile, column);
     let record = [0xC3, 0x3C, 0, row as u8, 0, column as u8, b'm', b'n'];
-    let records = counterfrost::correct(SIZE, slope, &mut tile, &record)?;
+    let records = counterfrost::correct(Kind::New, SIZE, slope, &mut tile, &record)?;
     println!("corrected: {records} letter");
 
     repair(slope, &mut tile)?;
@@ -59,7 +59,7 @@ fn main() -> Result<(), Refused> {
     dust(&mut tile, 5, 12);
     repair(slope, &mut tile)?;
 
-    counterfrost::read(SIZE, slope, &tile, &mut text)?;
+    counterfrost::read(Kind::New, SIZE, slope, &tile, &mut text)?;
     println!("read:\n{}", String::from_utf8_lossy(&text[..CAPTION.len()]));
     Ok(())
 }

@@ -6,22 +6,37 @@ mod c {
     extern "C" {
         pub fn cf_version() -> u64;
         pub fn cf_house_slope(p: usize) -> u64;
-        pub fn cf_takes(p: usize, l: usize) -> u64;
-        pub fn cf_write(p: usize, l: usize, text: *const u8, text_len: usize, tile: *mut u8, tile_len: usize) -> u64;
-        pub fn cf_read(p: usize, l: usize, tile: *const u8, tile_len: usize, text: *mut u8, text_len: usize) -> u64;
-        pub fn cf_repair(p: usize, l: usize, tile: *mut u8, tile_len: usize) -> u64;
-        pub fn cf_fill(p: usize, l: usize, tile: *mut u8, tile_len: usize, first: usize, second: usize) -> u64;
-        pub fn cf_correct(p: usize, l: usize, tile: *mut u8, tile_len: usize, sheet: *const u8, sheet_len: usize, count_or_offset: &mut u64) -> u64;
-        pub fn cf_next(reel: *const u8, reel_len: usize, at: usize, number: &mut u64, p: &mut u64, l: &mut u64, offset: &mut u64) -> u64;
+        pub fn cf_takes(kind: usize, p: usize, l: usize) -> u64;
+        pub fn cf_write(kind: usize, p: usize, l: usize, text: *const u8, text_len: usize, tile: *mut u8, tile_len: usize) -> u64;
+        pub fn cf_read(kind: usize, p: usize, l: usize, tile: *const u8, tile_len: usize, text: *mut u8, text_len: usize) -> u64;
+        pub fn cf_repair(kind: usize, p: usize, l: usize, tile: *mut u8, tile_len: usize) -> u64;
+        pub fn cf_fill(kind: usize, p: usize, l: usize, tile: *mut u8, tile_len: usize, first: usize, second: usize) -> u64;
+        pub fn cf_correct(
+            kind: usize, p: usize, l: usize, tile: *mut u8, tile_len: usize, sheet: *const u8, sheet_len: usize, count_or_offset: &mut u64,
+        ) -> u64;
+        pub fn cf_next(
+            reel: *const u8, reel_len: usize, at: usize, kind: &mut u64, number: &mut u64, p: &mut u64, l: &mut u64, offset: &mut u64,
+        ) -> u64;
     }
 }
 
-/// Why a call says no: the number, and in a sheet or a reel the offset of the faulty record.
+/// The kind of a tile. A new one takes the slopes that are allowed at its size. An old one takes every slope from 2 to p-2; where the slope
+/// is not allowed, its repair and its filling may be doubtful, which is refused with 8.
+#[derive(Clone, Copy, Debug, PartialEq, Eq)]
+pub enum Kind {
+    New = 0,
+    Old = 1,
+}
+
+/// Why a call says no: the number, from 1 to 8 as the header has them, and in a sheet or a reel the offset of the faulty record.
 #[derive(Debug, PartialEq, Eq)]
 pub struct Refused {
     pub number: u16,
     pub offset: u64,
 }
+
+/// The refusal of an old tile for which two different good tiles would do.
+pub const DOUBTFUL: u16 = 8;
 
 /// A row or a column of a tile.
 #[derive(Clone, Copy, Debug, PartialEq, Eq)]
@@ -37,9 +52,10 @@ pub enum Hurt {
     Line(Line),
 }
 
-/// A tile on a reel: its number, size and slope, and the offset where its bytes begin.
+/// A tile on a reel: its kind, number, size and slope, and the offset where its bytes begin.
 #[derive(Debug, PartialEq, Eq)]
 pub struct Tile {
+    pub kind: Kind,
     pub number: u64,
     pub p: u64,
     pub l: u64,
@@ -73,24 +89,24 @@ pub fn house_slope(p: usize) -> Result<usize, Refused> {
     taken(unsafe { c::cf_house_slope(p) }, 0).map(|(_, slope, _)| usize::from(slope))
 }
 
-/// Whether p is a size and l a slope that can be used there, and if not, why.
-pub fn takes(p: usize, l: usize) -> Result<(), Refused> {
-    taken(unsafe { c::cf_takes(p, l) }, 0).map(|_| ())
+/// Whether p is a size and l a slope that the kind can use there, and if not, why.
+pub fn takes(kind: Kind, p: usize, l: usize) -> Result<(), Refused> {
+    taken(unsafe { c::cf_takes(kind as usize, p, l) }, 0).map(|_| ())
 }
 
 /// Writes the good tile that has the text.
-pub fn write(p: usize, l: usize, text: &[u8], tile: &mut [u8]) -> Result<(), Refused> {
-    taken(unsafe { c::cf_write(p, l, text.as_ptr(), text.len(), tile.as_mut_ptr(), tile.len()) }, 0).map(|_| ())
+pub fn write(kind: Kind, p: usize, l: usize, text: &[u8], tile: &mut [u8]) -> Result<(), Refused> {
+    taken(unsafe { c::cf_write(kind as usize, p, l, text.as_ptr(), text.len(), tile.as_mut_ptr(), tile.len()) }, 0).map(|_| ())
 }
 
 /// Reads the text out of a good tile.
-pub fn read(p: usize, l: usize, tile: &[u8], text: &mut [u8]) -> Result<(), Refused> {
-    taken(unsafe { c::cf_read(p, l, tile.as_ptr(), tile.len(), text.as_mut_ptr(), text.len()) }, 0).map(|_| ())
+pub fn read(kind: Kind, p: usize, l: usize, tile: &[u8], text: &mut [u8]) -> Result<(), Refused> {
+    taken(unsafe { c::cf_read(kind as usize, p, l, tile.as_ptr(), tile.len(), text.as_mut_ptr(), text.len()) }, 0).map(|_| ())
 }
 
 /// Repairs one hurt column, or one hurt row, and names what was hurt; nothing where the tile is good.
-pub fn repair(p: usize, l: usize, tile: &mut [u8]) -> Result<Option<Hurt>, Refused> {
-    let answer = unsafe { c::cf_repair(p, l, tile.as_mut_ptr(), tile.len()) };
+pub fn repair(kind: Kind, p: usize, l: usize, tile: &mut [u8]) -> Result<Option<Hurt>, Refused> {
+    let answer = unsafe { c::cf_repair(kind as usize, p, l, tile.as_mut_ptr(), tile.len()) };
     taken(answer, 0).map(|(kind, first, second)| match kind {
         0 => None,
         1 => Some(Hurt::Line(Line::Column(first as u8))),
@@ -101,20 +117,21 @@ pub fn repair(p: usize, l: usize, tile: &mut [u8]) -> Result<Option<Hurt>, Refus
 }
 
 /// Fills one or two lost lines; one line is named twice.
-pub fn fill(p: usize, l: usize, tile: &mut [u8], first: Line, second: Line) -> Result<(), Refused> {
-    taken(unsafe { c::cf_fill(p, l, tile.as_mut_ptr(), tile.len(), name(first), name(second)) }, 0).map(|_| ())
+pub fn fill(kind: Kind, p: usize, l: usize, tile: &mut [u8], first: Line, second: Line) -> Result<(), Refused> {
+    taken(unsafe { c::cf_fill(kind as usize, p, l, tile.as_mut_ptr(), tile.len(), name(first), name(second)) }, 0).map(|_| ())
 }
 
 /// Corrects a tile, sound or damaged, by a sheet, and counts its records.
-pub fn correct(p: usize, l: usize, tile: &mut [u8], sheet: &[u8]) -> Result<u64, Refused> {
+pub fn correct(kind: Kind, p: usize, l: usize, tile: &mut [u8], sheet: &[u8]) -> Result<u64, Refused> {
     let mut told = 0;
-    let answer = unsafe { c::cf_correct(p, l, tile.as_mut_ptr(), tile.len(), sheet.as_ptr(), sheet.len(), &mut told) };
+    let answer = unsafe { c::cf_correct(kind as usize, p, l, tile.as_mut_ptr(), tile.len(), sheet.as_ptr(), sheet.len(), &mut told) };
     taken(answer, told).map(|_| told)
 }
 
 /// What stands at a place of a reel: a tile, or nothing at the end.
 pub fn next(reel: &[u8], at: usize) -> Result<Option<Tile>, Refused> {
-    let (mut number, mut p, mut l, mut offset) = (0, 0, 0, 0);
-    let answer = unsafe { c::cf_next(reel.as_ptr(), reel.len(), at, &mut number, &mut p, &mut l, &mut offset) };
-    taken(answer, offset).map(|(kind, ..)| (kind == 0).then_some(Tile { number, p, l, offset }))
+    let (mut kind, mut number, mut p, mut l, mut offset) = (0, 0, 0, 0, 0);
+    let answer = unsafe { c::cf_next(reel.as_ptr(), reel.len(), at, &mut kind, &mut number, &mut p, &mut l, &mut offset) };
+    let kind = if kind == 1 { Kind::Old } else { Kind::New };
+    taken(answer, offset).map(|(answered, ..)| (answered == 0).then_some(Tile { kind, number, p, l, offset }))
 }

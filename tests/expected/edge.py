@@ -2,6 +2,7 @@
 its new bytes already. The script must ask for each of them, of these bytes. What was done to a tile is known here, so that what has to be
 answered is too; the rules must give that answer, and the tile from before."""
 
+from expected.sizes import NEW
 from expected.tile import parsed, place, places, sums, text_length, tile_length, write
 from expected.tiles import WRITTEN
 
@@ -37,7 +38,7 @@ READS = (
 def good(p):
     """The good tile of a size, and its slope. The one byte of its sums is not 0."""
     l, text = TEXTS[p]
-    answer, tile = write(p, l, text, [0] * tile_length(p))
+    answer, tile = write(NEW, p, l, text, [0] * tile_length(p))
     assert answer == "done" and sums(p, 1, tile)[0] != 0
     return l, tile
 

@@ -1,12 +1,10 @@
 """The sample reel samples/long.reel: captions on tiles of many sizes, what was done to each tile, and the line that it must give. Each
 line is held against the listing that is worked out from the bytes (tests/expected/reel.py)."""
 
-from collections.abc import Callable
-from typing import NamedTuple
-
+from expected.done import Done, cells, lines, nothing
 from expected.reel import HEADER, listing, record
-from expected.sizes import SIZES
-from expected.tile import place, places, text_length, tile_length, write
+from expected.sizes import NEW, SIZES
+from expected.tile import text_length, tile_length, write
 from expected.tiles import REPAIRED, ones
 
 # Invented for this reel.
@@ -25,40 +23,6 @@ CAPTIONS = (
     "[footsteps on gravel]",
 )
 CUT = 5  # how many bytes the last record has lost
-
-
-class Done(NamedTuple):
-    """What was done to a tile: in words, and as a function of its size and its bytes."""
-
-    words: str
-    to: Callable
-
-
-def nothing():
-    """The tile is as written."""
-    return Done("nothing", lambda p, tile: tile)
-
-
-def cells(change, *hurt):
-    """These cells, each a row and a column, are changed by a byte."""
-    words = " and ".join(f"({i}, {j})" for i, j in hurt)
-
-    def to(p, tile):
-        changed = {place(p, i, j) for i, j in hurt}
-        return [byte ^ change if k in changed else byte for k, byte in enumerate(tile)]
-
-    return Done(f"{words} XOR {change:02X}", to)
-
-
-def lines(byte, *hurt):
-    """Every byte of these lines reads as one byte: a scratch 00, a splice FF."""
-    words = " and ".join(f"{kind} {n}" for kind, n in hurt)
-
-    def to(p, tile):
-        lost = {k for line in hurt for k in places(p, line)}
-        return [byte if k in lost else old for k, old in enumerate(tile)]
-
-    return Done(f"{words} {'reads' if len(hurt) == 1 else 'read'} {byte:02X}", to)
 
 
 def worked(n):
@@ -105,7 +69,7 @@ def text(first, length):
 
 def written(n, p, l):
     """The tile of the n-th record before anything was done to it."""
-    answer, tile = write(p, l, text(n % len(CAPTIONS), text_length(p)), [0] * tile_length(p))
+    answer, tile = write(NEW, p, l, text(n % len(CAPTIONS), text_length(p)), [0] * tile_length(p))
     assert answer == "done"
     return tile
 

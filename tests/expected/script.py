@@ -6,7 +6,7 @@ from typing import NamedTuple
 
 from expected import reel as reels
 from expected.sheet import correct
-from expected.sizes import HOUSE, is_size, verdict
+from expected.sizes import HOUSE, NEW, OLD, Kind, is_size, verdict
 from expected.tile import fill, read, repair, sums, tile_length, write
 
 COLON = 23  # the column that tells a question
@@ -15,9 +15,10 @@ NUMBERS = 2**64  # places are reckoned modulo this
 
 
 class Question(NamedTuple):
-    """A question: its name, two numbers, two lines, the bytes that the call may change and those that it only reads."""
+    """A question: its name, the kind of the tile, two numbers, two lines, the bytes that the call may change, and those that it reads."""
 
     name: str
+    kind: Kind
     p: int
     l: int
     lines: tuple
@@ -46,10 +47,10 @@ def question(line):
     if line[COLON : COLON + 1] != ":":
         assert not line or line.startswith("#"), f"neither a question nor a comment: {line}"
         return None
-    name, p, l, first, second = line[:8].strip(), line[8:11], line[12:15], line[16:19], line[20:23]
+    name, sign, p, l, first, second = line[:7].strip(), line[7], line[8:11], line[12:15], line[16:19], line[20:23]
     held, _, lent = line[COLON + 1 :].partition(":")
     lines = (flag(first), flag(second)) if name == "fill" else ()
-    return Question(name, number(p), number(l), lines, parsed(held), parsed(lent))
+    return Question(name, OLD if sign == "o" else NEW, number(p), number(l), lines, parsed(held), parsed(lent))
 
 
 def listed(data):
@@ -64,9 +65,10 @@ def found(reel, at):
     no = reels.refusal(reel, at)
     if no:
         return f"refused {no} at {at}", at
-    _, p, l, number = unpack_from(reels.LAYOUT, reel, at)
+    mark, p, l, number = unpack_from(reels.LAYOUT, reel, at)
     start = at + reels.HEADER
-    return f"tile {number} {p} {l} at {start}", start + tile_length(p)
+    tile = "old tile" if reels.KINDS[mark] == OLD else "tile"
+    return f"{tile} {number} {p} {l} at {start}", start + tile_length(p)
 
 
 def at_place(reel, at):
@@ -81,21 +83,21 @@ def at_place(reel, at):
 
 def answered(asked):
     """What a question is answered, and the bytes that the call leaves."""
-    name, p, l, lines, held, lent = asked
+    name, kind, p, l, lines, held, lent = asked
     if name == "write":
-        answer, left = write(p, l, lent, held)
+        answer, left = write(kind, p, l, lent, held)
     elif name == "read":
-        answer, left = read(p, l, lent, held)
+        answer, left = read(kind, p, l, lent, held)
     elif name == "mend":
-        answer, left = repair(p, l, held)
+        answer, left = repair(kind, p, l, held)
     elif name == "fill":
-        answer, left = fill(p, l, held, *lines)
+        answer, left = fill(kind, p, l, held, *lines)
     elif name == "correct":
-        answer, left = correct(p, l, held, lent)
+        answer, left = correct(kind, p, l, held, lent)
     elif name == "house":
         answer, left = f"slope {HOUSE[p]}" if is_size(p) else "refused 1", held
     elif name == "judge":
-        answer, left = verdict(p, l), held
+        answer, left = verdict(kind, p, l), held
     elif name == "sums":
         answer, left = "sums" + listed(sums(p, l, held)), held
     else:

@@ -4,6 +4,7 @@ good tile (tests/expected/tile.py)."""
 
 from struct import pack, unpack
 
+from expected.sizes import NEW
 from expected.tile import place, refusal, text_length, text_of, tile_length, write
 
 MARK = bytes.fromhex("C3 3C")
@@ -41,27 +42,27 @@ def differences(sheet):
     return found
 
 
-def change(p, l, sheet):
+def change(kind, p, l, sheet):
     """SPEC 6.4: D, the good tile that has the differences as its text, which is 0 elsewhere."""
     given = differences(sheet)
     text = [given.get((i, j), 0) for i in range(p - 1) for j in range(p - 3)]
     assert len(text) == text_length(p)
-    answer, tile = write(p, l, text, [0] * tile_length(p))
+    answer, tile = write(kind, p, l, text, [0] * tile_length(p))
     assert answer == "done" and text_of(p, tile) == text
     named = {place(p, i, j) for i, j in given}
     assert all(byte == 0 for k, byte in enumerate(tile) if k % (p - 1) < p - 3 and k not in named)
     return tile
 
 
-def correct(p, l, tile, sheet):
+def correct(kind, p, l, tile, sheet):
     """SPEC 6.3 and 6.4: the answer, and the tile afterwards."""
-    no = refusal(p, l, lambda: len(tile) == tile_length(p))
+    no = refusal(kind, p, l, lambda: len(tile) == tile_length(p))
     if no:
         return f"{no} at 0", tile
     no = fault(p, sheet)
     if no:
         return no, tile
-    return f"records {len(sheet) // LENGTH}", added(tile, change(p, l, sheet))
+    return f"records {len(sheet) // LENGTH}", added(tile, change(kind, p, l, sheet))
 
 
 def added(tile, other):
@@ -70,6 +71,6 @@ def added(tile, other):
 
 
 # A sheet without records (SPEC 6.1): none is counted, and the tile stays.
-assert correct(5, 2, list(range(16)), []) == ("records 0", list(range(16)))
+assert correct(NEW, 5, 2, list(range(16)), []) == ("records 0", list(range(16)))
 # SPEC 10, number 12: columns 2 and 1 of a record.
-assert [correct(5, 2, [0] * 16, record(0, column, 0, 1))[0] for column in (2, 1)] == ["refused 4 at 0", "records 1"]
+assert [correct(NEW, 5, 2, [0] * 16, record(0, column, 0, 1))[0] for column in (2, 1)] == ["refused 4 at 0", "records 1"]

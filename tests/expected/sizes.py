@@ -1,5 +1,6 @@
 """Sizes and slopes, from SPEC 2: the lists there are held against the rules there."""
 
+from enum import Enum
 from math import gcd
 
 LAST = 300  # sizes and slopes are looked for from 0 to here
@@ -31,15 +32,31 @@ def is_size(p):
 
 
 def is_slope(p, l):
+    """SPEC 2.2, for a size p: from 2 to p-2."""
+    return 2 <= l <= p - 2
+
+
+def is_allowed(p, l):
     """SPEC 2.2, for a size p: which remainders the powers of l leave."""
-    return 2 <= l <= p - 2 and {pow(l, k, p) for k in range(p - 1)} == set(range(1, p))
+    return is_slope(p, l) and {pow(l, k, p) for k in range(p - 1)} == set(range(1, p))
 
 
-def verdict(p, l):
+class Kind(Enum):
+    """SPEC 2.5: the kind of a tile."""
+
+    NEW = 0
+    OLD = 1
+
+
+NEW, OLD = Kind
+TAKES = {NEW: is_allowed, OLD: is_slope}  # which slopes a kind takes at a size
+
+
+def verdict(kind, p, l):
     """SPEC 2.4: number 1 comes before number 2."""
     if not is_size(p):
         return "refused 1"
-    return "taken" if is_slope(p, l) else "refused 2"
+    return "taken" if TAKES[kind](p, l) else "refused 2"
 
 
 def phi(n):
@@ -48,7 +65,8 @@ def phi(n):
 
 
 SIZES = [p for p in range(LAST + 1) if is_size(p)]
-SLOPES = {p: [l for l in range(LAST + 1) if is_slope(p, l)] for p in SIZES}
+SLOPES = {p: [l for l in range(LAST + 1) if is_allowed(p, l)] for p in SIZES}
+OLD_SLOPES = {p: [l for l in range(LAST + 1) if is_slope(p, l) and l not in SLOPES[p]] for p in SIZES}  # those of old tiles alone
 HOUSE = {p: SLOPES[p][0] for p in SIZES}
 
 assert HOUSE == listed_house_slopes()
@@ -56,6 +74,8 @@ assert len(SIZES) == 53
 # The slopes whose powers reach all are phi(p-1) in number, and from 5 on neither 1 nor p-1 is among them.
 assert all(len(SLOPES[p]) == phi(p - 1) for p in SIZES)
 # SPEC 10, number 12. And the same slope is allowed at one size and not at another.
-assert [verdict(p, 2) for p in (4, 9, 258)] == ["refused 1"] * 3 and is_size(5) and is_size(257)
-assert [verdict(7, l) for l in (2, 6, 3, 5)] == ["refused 2", "refused 2", "taken", "taken"]
-assert [verdict(p, 2) for p in (5, 7, 17)] == ["taken", "refused 2", "refused 2"]
+assert all(verdict(kind, p, 2) == "refused 1" for kind in Kind for p in (4, 9, 258)) and is_size(5) and is_size(257)
+assert [verdict(NEW, 7, l) for l in (2, 6, 10, 3, 5)] == ["refused 2"] * 3 + ["taken"] * 2
+assert [verdict(OLD, 7, l) for l in range(1, 7)] == ["refused 2", *["taken"] * 4, "refused 2"]
+assert [verdict(NEW, p, 2) for p in (5, 7, 17)] == ["taken", "refused 2", "refused 2"]
+assert [OLD_SLOPES[p] for p in (5, 7)] == [[], [2, 4]]

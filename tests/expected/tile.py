@@ -2,16 +2,16 @@
 
 A tile is the list of its bytes, row by row (SPEC 3.1). That all 2p sums are one byte is a set of 2p linear equations: bytes are added by
 XOR, bit by bit, and so the equations are over GF(2). The unknowns are the bytes of the flagged cells, which are those on the lines to
-fill, and the one byte that all sums are. Gaussian elimination solves them (SPEC 5.5). It tells whether there is a filling; and that the
-unknowns are settled, so that there is but one (SPEC 4.5), is asserted each time. Writing is filling the two check columns, and repair
-is filling one line after another, and then counting the bytes that came out otherwise.
+fill, and the one byte that all sums are. Gaussian elimination solves them (SPEC 5.5). It tells whether there is no filling, one, or
+several, which is where an unknown is not settled. What SPEC 4.5 and 5.4 say of that is asserted each time. Writing is filling the two check
+columns, and repair is filling every line in turn, comparing what comes out, and counting the bytes that came out otherwise.
 
 A line of a slope is a diagonal (SPEC 4.1). Any other line is a row or a column: a pair, ("row", r) or ("column", c). An answer is the
 text that the program prints for it."""
 
 from functools import cache, lru_cache
 
-from expected.sizes import verdict
+from expected.sizes import is_allowed, verdict
 
 
 def place(p, i, j):
@@ -73,11 +73,13 @@ def coefficients(p, l, lines):
     return equations, flagged
 
 
+SEVERAL = "several"  # in place of a filling: there are two different ones
+
+
 def eliminate(equations, unknowns):
-    """Solves equations whose left side is a set of bits and whose right side is a byte. Gives the values, or None where the
-    equations contradict each other. Where they settle not every unknown, it stops the script."""
+    """Solves equations whose left side is a set of bits and whose right side is a byte. Gives the values; or None where the equations
+    contradict each other; or SEVERAL where they do not, and settle not every unknown."""
     pivots = {}
-    contradicted = False
     for left, right in equations:
         while left and left.bit_length() - 1 in pivots:
             pivot_left, pivot_right = pivots[left.bit_length() - 1]
@@ -86,9 +88,8 @@ def eliminate(equations, unknowns):
         if left:
             pivots[left.bit_length() - 1] = (left, right)
         elif right:
-            contradicted = True
-    assert len(pivots) == unknowns, "the equations leave a choice"
-    return None if contradicted else back_substituted(pivots, unknowns)
+            return None
+    return back_substituted(pivots, unknowns) if len(pivots) == unknowns else SEVERAL
 
 
 def back_substituted(pivots, unknowns):
@@ -106,7 +107,7 @@ def back_substituted(pivots, unknowns):
 
 
 def filling(p, l, tile, *lines):
-    """The one good tile that agrees with the tile outside the lines, or None."""
+    """The one good tile that agrees with the tile outside the lines; or None, or SEVERAL."""
     return filling_of_sums(p, l, tile, both_sums(p, l, tile), lines)
 
 
@@ -120,13 +121,23 @@ def filling_of_sums(p, l, tile, totals, lines):
             right ^= tile[k]
         known.append((left, right))
     values = eliminate(known, len(flagged) + 1)
-    if values is None:
-        return None
+    hold_count(p, l, lines, values)
+    if values in (None, SEVERAL):
+        return values
     filled = list(tile)
     for n, k in enumerate(flagged):
         filled[k] = values[n + 1]
     assert is_good(p, l, filled)
     return filled
+
+
+def hold_count(p, l, lines, values):
+    """SPEC 4.5 and 5.4: how many fillings some lines can have, whatever the bytes."""
+    (kind, _), *others = set(lines)
+    if any(other != kind for other, _ in others):
+        assert values != SEVERAL if is_allowed(p, l) else values in (None, SEVERAL)
+    else:
+        assert values not in (None, SEVERAL) if others else values != SEVERAL
 
 
 def tile_length(p):
@@ -144,30 +155,30 @@ def text_of(p, tile):
     return [tile[place(p, i, j)] for i in range(p - 1) for j in range(p - 3)]
 
 
-def refusal(p, l, lengths_are_right):
+def refusal(kind, p, l, lengths_are_right):
     """SPEC 9.2: refusal 1, 2 or 3, in that order, or None. Only a size has a length, so the lengths are asked for last."""
-    judged = verdict(p, l)
+    judged = verdict(kind, p, l)
     if judged != "taken":
         return judged
     return None if lengths_are_right() else "refused 3"
 
 
-def write(p, l, text, tile):
+def write(kind, p, l, text, tile):
     """SPEC 5.1: the answer, and the tile afterwards."""
-    no = refusal(p, l, lambda: len(tile) == tile_length(p) and len(text) == text_length(p))
+    no = refusal(kind, p, l, lambda: len(tile) == tile_length(p) and len(text) == text_length(p))
     if no:
         return no, tile
     laid = [0] * tile_length(p)
     for k, byte in enumerate(text):
         laid[place(p, k // (p - 3), k % (p - 3))] = byte
     written = filling(p, l, laid, ("column", p - 3), ("column", p - 2))
-    assert written is not None and text_of(p, written) == list(text)
+    assert text_of(p, written) == list(text)
     return "done", written
 
 
-def read(p, l, tile, text):
+def read(kind, p, l, tile, text):
     """SPEC 5.2: the answer, and the text afterwards."""
-    no = refusal(p, l, lambda: len(tile) == tile_length(p) and len(text) == text_length(p))
+    no = refusal(kind, p, l, lambda: len(tile) == tile_length(p) and len(text) == text_length(p))
     if no:
         return no, text
     return ("done", text_of(p, tile)) if is_good(p, l, tile) else ("refused 5", text)
@@ -183,33 +194,43 @@ def difference(p, lent, good):
     return f"row {row}" if other_columns else f"column {column}"
 
 
-def repair(p, l, tile):
-    """SPEC 5.3: the answer, and the tile afterwards, by trying every column and then every row, up to the first that has a filling."""
-    no = refusal(p, l, lambda: len(tile) == tile_length(p))
+def explanations(p, l, tile):
+    """SPEC 5.3, step 2: the different good tiles by which some line explains a tile. By 4.5 all columns have one at most, and all rows."""
+    totals = both_sums(p, l, tile)  # once, not for each line: a large tile has 500 of them
+    found = []
+    for kind in ("column", "row"):
+        of_kind = [filling_of_sums(p, l, tile, totals, ((kind, n),)) for n in range(p - 1)]
+        different = {bytes(good) for good in of_kind if good is not None}
+        assert len(different) <= 1
+        found += different
+    return set(found)
+
+
+def repair(kind, p, l, tile):
+    """SPEC 5.3: the answer, and the tile afterwards, by trying every line."""
+    no = refusal(kind, p, l, lambda: len(tile) == tile_length(p))
     if no:
         return no, tile
     if is_good(p, l, tile):
         return "clean", tile
-    totals = both_sums(p, l, tile)  # once, not for each line: a large tile has 500 of them
-    for kind in ("column", "row"):
-        for n in range(p - 1):
-            repaired = filling_of_sums(p, l, tile, totals, ((kind, n),))
-            if repaired is not None:
-                return difference(p, tile, repaired), repaired
-    return "refused 5", tile
+    found = explanations(p, l, tile)
+    if len(found) == 1:
+        repaired = list(*found)
+        return difference(p, tile, repaired), repaired
+    assert not found or not is_allowed(p, l), "doubtful at an allowed slope"
+    return "refused 8" if found else "refused 5", tile
 
 
-def fill(p, l, tile, first, second):
-    """SPEC 5.4: the answer, and the tile afterwards. Where two rows are lost, or two columns, there must be a filling."""
-    no = refusal(p, l, lambda: len(tile) == tile_length(p))
+def fill(kind, p, l, tile, first, second):
+    """SPEC 5.4: the answer, and the tile afterwards."""
+    no = refusal(kind, p, l, lambda: len(tile) == tile_length(p))
     if no:
         return no, tile
     if first[1] > p - 2 or second[1] > p - 2:
         return "refused 4", tile
     filled = filling(p, l, tile, first, second)
-    if filled is None:
-        assert first == second or first[0] != second[0]
-        return "refused 5", tile
+    if filled in (None, SEVERAL):
+        return "refused 5" if filled is None else "refused 8", tile
     return "done", filled
 
 

@@ -1,10 +1,12 @@
-"""The worked tiles of SPEC 10, 1 to 11 at p 5 and l 2, and what is said there of each: the script must ask it, of these bytes, and the
-answer that the rules give must be the one that is said."""
+"""The worked tiles of SPEC 10, 1 to 11 at p 5 and l 2, and 13 to 17, which are old, at p 7 and l 2, and what is said there of each: the
+script must ask it, of these bytes, and the answer that the rules give must be the one that is said."""
 
-from expected.sheet import record
-from expected.tile import parsed
+from expected.sheet import added, change, record
+from expected.sizes import NEW, OLD
+from expected.tile import is_good, parsed
 
 P, L = 5, 2
+OLD_P, OLD_L = 7, 2  # of tiles 13 to 17
 
 # Text, the tile that it writes, and what all its sums are.
 WRITTEN = {
@@ -27,18 +29,34 @@ FILLED = {
 }
 LOST = (0, 255)  # what stands in the lost cells
 OTHER = 7  # what stands in a tile before it is written, and in a text before it is read
-# Number 12: how sizes are judged, each with a slope that would do, and slopes at 7.
+# Number 12: how sizes are judged, each with a slope that would do, and slopes at 7, of each kind.
 JUDGED = {
-    **{(4, 2): "refused 1", (9, 2): "refused 1", (258, 2): "refused 1", (5, 2): "taken", (257, 3): "taken"},
-    **{(7, 2): "refused 2", (7, 6): "refused 2", (7, 3): "taken", (7, 5): "taken"},
+    NEW: {
+        **{(4, 2): "refused 1", (9, 2): "refused 1", (258, 2): "refused 1", (5, 2): "taken", (257, 3): "taken"},
+        **{(7, 2): "refused 2", (7, 6): "refused 2", (7, 10): "refused 2", (7, 3): "taken", (7, 5): "taken"},
+    },
+    OLD: {
+        **{(4, 2): "refused 1", (9, 2): "refused 1", (258, 2): "refused 1", (257, 2): "taken"},
+        **{(7, l): "taken" for l in (2, 3, 4, 5)},
+        **{(7, 1): "refused 2", (7, 6): "refused 2"},
+    },
+}
+# Where E of the old tiles has 1: each diagonal of either slope that meets row 0 in one of these cells meets column 0 in another one.
+E = [*[(0, k) for k in (1, 2, 4)], *[(k, 0) for k in (1, 2, 4)]]
+# Where an old tile has 1, and the answer when row 0 and column 0 are filled; and when it is repaired, with where it has 1 afterwards.
+OLD_FILLED = {13: ([], "refused 8"), 15: ([(1, 1)], "refused 5")}
+OLD_REPAIRED = {
+    14: ([(1, 0), (2, 0), (4, 0)], "refused 8", [(1, 0), (2, 0), (4, 0)]),
+    16: ([(1, 1)], "cell 1 1", []),
+    17: (E, "clean", E),
 }
 WRONG_LENGTHS = (15, 17)
 COLUMNS = {2: "refused 4 at 0", 1: "records 1"}  # of a correction
 
 
-def ones(cells):
+def ones(cells, p=P):
     """A tile of zeros but for 1 in these cells."""
-    return [int((i, j) in cells) for i in range(P - 1) for j in range(P - 1)]
+    return [int((i, j) in cells) for i in range(p - 1) for j in range(p - 1)]
 
 
 def hold_written(says):
@@ -80,8 +98,9 @@ def hold_corrected(says):
 
 def hold_edges(says):
     """Number 12."""
-    for (p, l), answer in JUDGED.items():
-        says("judge", p, l, [], [], answer, [])
+    for kind, judged in JUDGED.items():
+        for (p, l), answer in judged.items():
+            says("judge", p, l, [], [], answer, [], kind=kind)
     for length in WRONG_LENGTHS:
         tile = [0] * length
         says("write", P, L, tile, parsed(WRITTEN[1][0]), "refused 3", tile)
@@ -93,7 +112,34 @@ def hold_edges(says):
         says("correct", P, L, ones([]), record(0, column, 0, 1), answer)
 
 
+def hold_old(says):
+    """Tiles 13 to 17. Tile 17 is written too, from its text, and filled where two rows or two columns of it are lost."""
+    p, l, lines = OLD_P, OLD_L, (("row", 0), ("column", 0))
+    for cells, answer in OLD_FILLED.values():
+        tile = ones(cells, p)
+        says("fill", p, l, tile, [], answer, tile, lines, kind=OLD)
+    for before, answer, behind in OLD_REPAIRED.values():
+        says("mend", p, l, ones(before, p), [], answer, ones(behind, p), kind=OLD)
+    e = ones(E, p)
+    assert is_good(p, l, e)
+    text = [int((i, j) in E) for i in range(p - 1) for j in range(p - 3)]
+    says("read", p, l, [OTHER] * len(text), e, "done", text, kind=OLD)
+    says("write", p, l, [OTHER] * len(e), text, "done", e, kind=OLD)
+    lost = [LOST[1]] * (p - 1) + e[p - 1 :]
+    says("fill", p, l, lost, [], "done", e, (("row", 0), ("row", 3)), kind=OLD)
+    says("fill", p, l, e, [], "done", e, (("column", 5), ("column", 0)), kind=OLD)
+
+
+def hold_old_corrected(says):
+    """Tile 14 is corrected, and is doubtful as before (SPEC 6.5)."""
+    p, l, sheet = OLD_P, OLD_L, record(0, 0, 0, 1)
+    tile = ones(OLD_REPAIRED[14][0], p)
+    corrected = added(tile, change(OLD, p, l, sheet))
+    says("correct", p, l, tile, sheet, "records 1", corrected, kind=OLD)
+    says("mend", p, l, corrected, [], "refused 8", corrected, kind=OLD)
+
+
 def hold(says):
     """All of them."""
-    for part in (hold_written, hold_repaired, hold_filled, hold_corrected, hold_edges):
+    for part in (hold_written, hold_repaired, hold_filled, hold_corrected, hold_edges, hold_old, hold_old_corrected):
         part(says)

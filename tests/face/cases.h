@@ -1,4 +1,4 @@
-/* The cases, by subject. Each function asks its questions of both sides, always the same ones. */
+/* The cases, by subject. Each function asks its questions of all sides, always the same ones. */
 
 #ifndef CASES_H
 #define CASES_H
@@ -9,6 +9,7 @@ void cases_size(void);
 void cases_tile(void);
 void cases_repair(void);
 void cases_fill(void);
+void cases_doubtful(void);
 void cases_sheet(void);
 void cases_reel(void);
 void cases_edges(void);

@@ -15,7 +15,7 @@ static struct chance chance;
 
 /* What a call is told. */
 struct told {
-    size_t p, l, tile_len, text_len, first, second;
+    size_t kind, p, l, tile_len, text_len, first, second;
 };
 
 static size_t pick(const size_t *numbers, size_t count)
@@ -36,7 +36,7 @@ static size_t wrong_size(void)
     return PICK(0, 1, 2, 3, 4, 6, 8, 9, 25, 49, 121, 169, 253, 255, 256, 258, 259, 261, 263, 269, 289, far(), far());
 }
 
-/* Among these are numbers that leave the remainder of an allowed slope. */
+/* Slopes of neither kind; among these are numbers that leave the remainder of an allowed one. */
 static size_t wrong_slope(size_t p)
 {
     return PICK(0, 1, p - 1, p, p + 1, p + 2, p + house_slope(p), 2 * p + house_slope(p), far(), (far() / p - 1) * p + house_slope(p));
@@ -71,9 +71,11 @@ static size_t some_size(void)
     return PICK(5, 5, 5, 7, 7, 7, 11, 13, 17, 31);
 }
 
+/* Of either kind: an old tile has any slope from 2 to p-2. */
 static struct told sound(size_t p)
 {
-    struct told told = {p, some_slope(&chance, p), tile_length(p), text_length(p), right_line(p), right_line(p)};
+    size_t kind = PICK(NEW, OLD), l = kind == OLD ? 2 + chance_below(&chance, p - 3) : some_slope(&chance, p);
+    struct told told = {kind, p, l, tile_length(p), text_length(p), right_line(p), right_line(p)};
     return told;
 }
 
@@ -102,14 +104,14 @@ static void ask_all(const struct told *told)
     static struct sheet sheet;
     uint64_t count;
     make_sheet(&sheet, &chance, 5, 2);
-    ask_write(told->p, told->l, text, told->text_len, tile, told->tile_len);
-    ask_read(told->p, told->l, tile, told->tile_len, text, told->text_len);
-    ask_fill(told->p, told->l, tile, told->tile_len, told->first, told->second);
-    ask_correct(told->p, told->l, tile, told->tile_len, sheet.bytes, sheet.length, &count);
-    ask_repair(told->p, told->l, tile, told->tile_len);
+    ask_write(told->kind, told->p, told->l, text, told->text_len, tile, told->tile_len);
+    ask_read(told->kind, told->p, told->l, tile, told->tile_len, text, told->text_len);
+    ask_fill(told->kind, told->p, told->l, tile, told->tile_len, told->first, told->second);
+    ask_correct(told->kind, told->p, told->l, tile, told->tile_len, sheet.bytes, sheet.length, &count);
+    ask_repair(told->kind, told->p, told->l, tile, told->tile_len);
 }
 
-/* Every set of faults, many times each, over tiles of any bytes: a call that is not refused before is refused with 5, or is not. */
+/* Every set of faults, many times each, over tiles of any bytes: a call that is not refused before is refused with 5 or 8, or is not. */
 static void every_set_of_faults(void)
 {
     for (unsigned faults = 0; faults <= ALL_FAULTS; faults++) {
@@ -136,14 +138,14 @@ static void at_the_largest_size(void)
 }
 
 /* Lines at their edges, each with each, at all sizes up to a small one and at the largest. */
-static void each_line_at_its_edge(size_t p)
+static void each_line_at_its_edge(size_t kind, size_t p, size_t l)
 {
     const size_t lines[] = {row_name(0),       row_name(p - 2),    row_name(p - 1), 0x7FFF,   column_name(0), column_name(p - 2),
                             column_name(p - 1), column_name(0x7FFF), 0x10000,       SIZE_MAX, SIZE_MAX - 0x7FFF};
     enum { COUNT = sizeof lines / sizeof lines[0] };
     for (size_t i = 0; i < COUNT; i++)
         for (size_t j = 0; j < COUNT; j++)
-            ask_fill(p, house_slope(p), tile, tile_length(p), lines[i], lines[j]);
+            ask_fill(kind, p, l, tile, tile_length(p), lines[i], lines[j]);
 }
 
 /* All lengths from nothing to some more than is right. */
@@ -163,8 +165,8 @@ static void each_length_with_each(size_t p)
     struct told told = sound(p);
     for (told.tile_len = 0; told.tile_len <= tile_length(p) + 1; told.tile_len++) {
         for (told.text_len = 0; told.text_len <= text_length(p) + 1; told.text_len++) {
-            ask_write(told.p, told.l, text, told.text_len, tile, told.tile_len);
-            ask_read(told.p, told.l, tile, told.tile_len, text, told.text_len);
+            ask_write(told.kind, told.p, told.l, text, told.text_len, tile, told.tile_len);
+            ask_read(told.kind, told.p, told.l, tile, told.tile_len, text, told.text_len);
         }
     }
 }
@@ -175,8 +177,9 @@ void cases_edges(void)
     every_set_of_faults();
     at_the_largest_size();
     for (size_t p = size_above(0); p <= 13; p = size_above(p))
-        each_line_at_its_edge(p);
-    each_line_at_its_edge(LARGEST_SIZE);
+        each_line_at_its_edge(NEW, p, house_slope(p));
+    for_small_old_sizes(13, each_line_at_its_edge);
+    each_line_at_its_edge(NEW, LARGEST_SIZE, house_slope(LARGEST_SIZE));
     for (size_t p = size_above(0); p <= 11; p = size_above(p))
         each_length(p);
     each_length_with_each(5);

@@ -32,20 +32,22 @@ static void take_words_apart(void)
 static void take_a_cell_apart(void)
 {
     uint8_t tile[16] = {[1 * 4 + 2] = 0x41};
-    uint64_t said = ask_repair(5, 2, tile, 16);
+    uint64_t said = ask_repair(CF_NEW, 5, 2, tile, 16);
     hold(cf_kind(said) == CF_KIND_CELL && cf_first(said) == 1 && cf_second(said) == 2, "cell (1, 2) is taken apart");
     hold(cf_refusal(said) == 0, "a cell is no refusal");
 }
 
-/* Kinds have the numbers of SPEC 11.1, and refusals those of SPEC 9.1. */
+/* Kinds of an answer have the numbers of SPEC 11.1, refusals those of SPEC 9.1, and kinds of a tile those of SPEC 11.5. */
 static void know_the_numbers(void)
 {
     static const unsigned kinds[][2] = {{CF_KIND_DONE, 0}, {CF_KIND_COLUMN, 1}, {CF_KIND_ROW, 2}, {CF_KIND_CELL, 3}, {CF_KIND_REFUSED, 4}, {CF_KIND_END, 7}};
     for (size_t k = 0; k < sizeof kinds / sizeof kinds[0]; k++)
         hold(kinds[k][0] == kinds[k][1], "the kind %u has the number %u", kinds[k][1], kinds[k][0]);
-    static const unsigned refusals[] = {CF_BAD_SIZE, CF_BAD_SLOPE, CF_BAD_LENGTH, CF_BAD_PLACE, CF_DAMAGED, CF_BAD_MARK, CF_CUT_SHORT};
-    for (unsigned k = 0; k < 7; k++)
+    static const unsigned refusals[] = {CF_BAD_SIZE, CF_BAD_SLOPE, CF_BAD_LENGTH, CF_BAD_PLACE,
+                                        CF_DAMAGED,  CF_BAD_MARK,  CF_CUT_SHORT,  CF_DOUBTFUL};
+    for (unsigned k = 0; k < 8; k++)
         hold(refusals[k] == k + 1, "the refusal %u has the number %u", k + 1, refusals[k]);
+    hold(CF_NEW == 0 && CF_OLD == 1, "new has the number %u, and old %u", CF_NEW, CF_OLD);
 }
 
 /* Up to 7FFE hex a line is named by its number, columns from 8000 hex on; a larger number still names a line of its kind that no tile
@@ -85,12 +87,12 @@ static void know_the_version(void)
     hold(10000 * major + 100 * minor + patch == CF_VERSION, "the version's text is that of its number");
 }
 
-/* Every number has words, and each of the seven, and none at all, has words of its own. */
+/* Every number has words, and each of the eight, and none at all, has words of its own. */
 static void have_words(void)
 {
-    static const unsigned others[] = {8, 9, 255, 0xFFFF, 0x10001, 0x7FFFFFFF, 0xFFFFFFFF};
-    const char *unknown = cf_refusal_words(8);
-    for (unsigned k = 0; k < 8; k++) {
+    static const unsigned others[] = {9, 10, 255, 0xFFFF, 0x10001, 0x7FFFFFFF, 0xFFFFFFFF};
+    const char *unknown = cf_refusal_words(9);
+    for (unsigned k = 0; k < 9; k++) {
         const char *words = cf_refusal_words(k);
         hold(words != NULL && words[0] != 0, "the refusal %u has words", k);
         hold(strcmp(words, unknown) != 0, "the refusal %u is known", k);
@@ -124,9 +126,11 @@ static void lay_far_corrections(void)
         uint64_t offset;
         cf_lay_correction(sheet, 0, 0, 0, 1);
         cf_lay_correction(sheet + 8, far[k], 1, 0, 1);
-        hold(cf_refusal(ask_correct(5, 2, tile, 16, sheet, 16, &offset)) == CF_BAD_PLACE && offset == 8, "row %zu is refused", far[k]);
+        unsigned no = cf_refusal(ask_correct(CF_NEW, 5, 2, tile, 16, sheet, 16, &offset));
+        hold(no == CF_BAD_PLACE && offset == 8, "row %zu is refused", far[k]);
         cf_lay_correction(sheet + 8, 1, far[k], 0, 1);
-        hold(cf_refusal(ask_correct(5, 2, tile, 16, sheet, 16, &offset)) == CF_BAD_PLACE && offset == 8, "column %zu is refused", far[k]);
+        no = cf_refusal(ask_correct(CF_NEW, 5, 2, tile, 16, sheet, 16, &offset));
+        hold(no == CF_BAD_PLACE && offset == 8, "column %zu is refused", far[k]);
     }
 }
 

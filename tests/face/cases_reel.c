@@ -1,5 +1,5 @@
 /* Reels (SPEC 7.2): asked at every offset and cut at every byte where they are small, with every fault of a record, with tiles of all
- * sizes, with many tiles, and of any bytes. */
+ * sizes and of both kinds, with many tiles, and of any bytes. */
 
 #include <stddef.h>
 #include <stdint.h>
@@ -7,9 +7,13 @@
 
 #include "ask.h"
 #include "cases.h"
+#include "differences.h"
 #include "made.h"
 
 enum { HEADER = 10, LONGEST_REEL = 300000 };
+
+/* FORMATS: the mark of a new tile's record, and of an old one's. */
+enum { NEW_MARK = 0xD55D, OLD_MARK = 0x5DD5 };
 
 #define COUNT_OF(list) (sizeof(list) / sizeof(list)[0])
 
@@ -33,29 +37,37 @@ static void put_number(uint8_t *bytes, size_t count, size_t number)
         bytes[k] = (uint8_t)(number >> 8 * (count - 1 - k));
 }
 
-static void put_header(size_t at, size_t p, size_t l, uint32_t number)
+static void put_header(size_t at, size_t mark, size_t p, size_t l, uint32_t number)
 {
     uint8_t *header = &reel.bytes[at];
-    put_number(&header[0], 2, 0xD55D);
+    put_number(&header[0], 2, mark);
     put_number(&header[2], 2, p);
     put_number(&header[4], 2, l);
     put_number(&header[6], 4, number);
 }
 
 /* A record with a tile of any bytes. */
-static void add_tile(size_t p, size_t l, uint32_t number)
+static void add_tile(size_t mark, size_t p, size_t l, uint32_t number)
 {
-    put_header(reel.length, p, l, number);
+    put_header(reel.length, mark, p, l, number);
     chance_bytes(&chance, &reel.bytes[reel.length + HEADER], tile_length(p));
     reel.length += HEADER + tile_length(p);
 }
 
-/* Tiles of the given sizes, each with a slope that it allows, and with any number. */
+/* A tile of either kind, with a slope that it takes and any number. */
+static void add_some_tile(size_t p)
+{
+    int is_old = (int)chance_below(&chance, 2);
+    size_t slope = is_old ? 2 + chance_below(&chance, p - 3) : some_slope(&chance, p);
+    add_tile(is_old ? OLD_MARK : NEW_MARK, p, slope, (uint32_t)chance_below(&chance, (size_t)1 << 32));
+}
+
+/* Tiles of the given sizes, new and old ones mixed. */
 static void make_reel(const size_t *sizes, size_t count)
 {
     reel.length = 0;
     for (size_t k = 0; k < count; k++)
-        add_tile(sizes[k], some_slope(&chance, sizes[k]), (uint32_t)chance_below(&chance, (size_t)1 << 32));
+        add_some_tile(sizes[k]);
 }
 
 static void each_place(size_t length)
@@ -117,55 +129,103 @@ static void small_reels_mixed(void)
     far_places(reel.length);
 }
 
-/* Two tiles, of which the second's header is changed: its mark, then its size, then its slope. */
-static void faulty_headers(void)
+/* Where the second tile's header begins on the reels below, and in it the fields. */
+enum { SECOND = 26, SIZE = SECOND + 2, SLOPE = SECOND + 4 };
+
+/* Three tiles, of which the second's header is changed: its size, then its slope, then each byte of both. */
+static void faulty_numbers(size_t mark)
 {
-    static const size_t sizes[] = {5, 7, 5};
-    enum { SECOND = 26, MARK = SECOND, SIZE = SECOND + 2, SLOPE = SECOND + 4 };
-    make_reel(sizes, 3);
-    for (size_t k = MARK; k < MARK + 2; k++) {
-        uint8_t right = reel.bytes[k];
-        for (unsigned byte = 0; byte < 256; byte++) {
-            reel.bytes[k] = (uint8_t)byte;
-            next(reel.length, SECOND);
-        }
-        reel.bytes[k] = right;
-    }
     for (size_t p = 0; p <= 300; p++) {
-        put_header(SECOND, p, 3, 1);
+        put_header(SECOND, mark, p, 3, 1);
         next(reel.length, SECOND);
     }
     for (size_t l = 0; l <= 300; l++) {
-        put_header(SECOND, 7, l, 1);
+        put_header(SECOND, mark, 7, l, 1);
         next(reel.length, SECOND);
     }
     for (size_t k = SIZE; k < SLOPE + 2; k++) {
         for (unsigned byte = 0; byte < 256; byte++) {
-            put_header(SECOND, 7, 3, 1);
+            put_header(SECOND, mark, 7, 3, 1);
             reel.bytes[k] = (uint8_t)byte;
             next(reel.length, SECOND);
         }
     }
 }
 
-/* Faults that meet: a mark, a size and a slope, each right or wrong, in a record that is cut by any number of bytes. */
-static void faults_that_meet(void)
+/* Its mark becomes each pair of bytes in which one is a mark's byte, in either place; only two of them are marks. */
+static void each_mark(void)
 {
-    static const size_t sizes[] = {7, 7};
-    enum { SECOND = 46, WRONG_MARK = 1, WRONG_SIZE = 2, WRONG_SLOPE = 4 };
+    static const uint8_t bytes_of_marks[] = {0xD5, 0x5D};
+    size_t taken = 0;
+    for (size_t k = 0; k < 2 * COUNT_OF(bytes_of_marks); k++) {
+        for (unsigned byte = 0; byte < 256; byte++) {
+            put_header(SECOND, NEW_MARK, 7, 3, 1);
+            reel.bytes[SECOND + k % 2] = bytes_of_marks[k / 2];
+            reel.bytes[SECOND + (k + 1) % 2] = (uint8_t)byte;
+            taken += next(reel.length, SECOND) == word_done();
+        }
+    }
+    hold(taken == 4, "of the marks, each met twice, the peer takes %zu", taken);
+}
+
+static void faulty_headers(void)
+{
+    static const size_t sizes[] = {5, 7, 5};
+    make_reel(sizes, 3);
+    each_mark();
+    faulty_numbers(NEW_MARK);
+    faulty_numbers(OLD_MARK);
+}
+
+/* Faults that meet: a mark, a size and a slope, each right or wrong, in a record that is cut by any number of bytes. */
+static void faults_that_meet(size_t mark)
+{
+    static const size_t sizes[] = {5, 7};
+    enum { WRONG_MARK = 1, WRONG_SIZE = 2, WRONG_SLOPE = 4 };
+    size_t wrong_slope = mark == NEW_MARK ? 4 : 6;
     for (unsigned faults = 0; faults < 8; faults++) {
         make_reel(sizes, 2);
-        put_header(SECOND, faults & WRONG_SIZE ? 9 : 7, faults & WRONG_SLOPE ? 4 : 5, 2);
+        put_header(SECOND, mark, faults & WRONG_SIZE ? 9 : 7, faults & WRONG_SLOPE ? wrong_slope : 5, 2);
         if (faults & WRONG_MARK)
             reel.bytes[SECOND + 1] ^= 1;
-        for (size_t cut = 0; cut <= SECOND; cut++)
+        for (size_t cut = 0; cut <= reel.length - SECOND; cut++)
             next(reel.length - cut, SECOND);
+    }
+}
+
+/* What is known of a record, by its mark, size and slope (SPEC 7.2): a tile with its kind, or a refusal, with 0 for all but the offset. */
+static void known_records(void)
+{
+    static const struct {
+        size_t mark, p, l;
+        enum refusal refusal;
+    } records[] = {
+        {NEW_MARK, 7, 2, BAD_SLOPE}, {NEW_MARK, 7, 3, ACCEPTED},  {NEW_MARK, 7, 5, ACCEPTED},  {OLD_MARK, 7, 0, BAD_SLOPE},
+        {OLD_MARK, 7, 1, BAD_SLOPE}, {OLD_MARK, 7, 2, ACCEPTED},  {OLD_MARK, 7, 3, ACCEPTED},  {OLD_MARK, 7, 4, ACCEPTED},
+        {OLD_MARK, 7, 5, ACCEPTED},  {OLD_MARK, 7, 6, BAD_SLOPE}, {OLD_MARK, 7, 7, BAD_SLOPE}, {OLD_MARK, 7, 65535, BAD_SLOPE},
+        {OLD_MARK, 9, 2, BAD_SIZE},  {OLD_MARK, 11, 2, CUT_SHORT}, {0xD5D5, 7, 3, BAD_MARK},   {0x5D5D, 7, 3, BAD_MARK},
+        {0xD55E, 7, 3, BAD_MARK},    {0xD55C, 7, 3, BAD_MARK},    {0xD65D, 7, 3, BAD_MARK},    {0xD45D, 7, 3, BAD_MARK},
+        {0x5DD6, 7, 3, BAD_MARK},    {0x5DD4, 7, 3, BAD_MARK},    {0x5ED5, 7, 3, BAD_MARK},    {0x5CD5, 7, 3, BAD_MARK},
+    };
+    static const size_t sizes[] = {5, 7};
+    make_reel(sizes, 2);
+    for (size_t k = 0; k < COUNT_OF(records); k++) {
+        size_t mark = records[k].mark, p = records[k].p, l = records[k].l;
+        struct found found, tile = {mark == OLD_MARK, 300, p, l, SECOND + HEADER}, none = {0, 0, 0, 0, SECOND};
+        put_header(SECOND, mark, p, l, 300);
+        uint64_t said = ask_next(reel.bytes, reel.length, SECOND, &found);
+        if (records[k].refusal == ACCEPTED)
+            hold(said == word_done() && memcmp(&found, &tile, sizeof found) == 0, "mark %zx, size %zu, slope %zu: the peer finds no tile",
+                 mark, p, l);
+        else
+            hold(said == word_refused(records[k].refusal) && memcmp(&found, &none, sizeof found) == 0,
+                 "mark %zx, size %zu, slope %zu: the peer does not refuse this by %d", mark, p, l, (int)records[k].refusal);
     }
 }
 
 /* Marks, sizes with slopes, and numbers of bytes that are there, on both sides of each edge and each with each: the order of refusals
  * shows in records with several faults. */
-static const size_t marks[] = {0xD55D, 0xD45D, 0x005D, 0xD55C, 0xD500, 0, 0x5DD5, 0xC33C};
+static const size_t marks[] = {NEW_MARK, 0xD45D, 0x005D, 0xD55C, 0xD500, 0, OLD_MARK, 0xC33C, 0x5DD4, 0xD5D5, 0x5D5D};
 static const size_t sizes_with_slopes[][2] = {
     {0, 2},  {1, 2},    {4, 2},     {6, 2},  {9, 2},  {9, 0},  {256, 2}, {258, 2},  {261, 2},  {1285, 2}, {65535, 2},  {5, 0},
     {5, 1},  {5, 2},    {5, 3},     {5, 4},  {5, 5},  {5, 258}, {5, 65535}, {7, 0}, {7, 1},    {7, 2},    {7, 3},      {7, 5},
@@ -185,8 +245,7 @@ static void ask_last_record(size_t at, size_t length)
 static void last_records(size_t at, size_t mark)
 {
     for (size_t k = 0; k < COUNT_OF(sizes_with_slopes); k++) {
-        put_header(at, sizes_with_slopes[k][0], sizes_with_slopes[k][1], 9);
-        put_number(&reel.bytes[at], 2, mark);
+        put_header(at, mark, sizes_with_slopes[k][0], sizes_with_slopes[k][1], 9);
         for (size_t n = 0; n < COUNT_OF(numbers_of_bytes); n++)
             ask_last_record(at, numbers_of_bytes[n]);
     }
@@ -199,7 +258,7 @@ static void faults_behind_whole_records(void)
     for (size_t whole = 0; whole <= COUNT_OF(sizes); whole++) {
         make_reel(sizes, whole);
         size_t at = reel.length;
-        add_tile(17, 3, 9);
+        add_tile(NEW_MARK, 17, 3, 9);
         for (size_t k = 0; k < COUNT_OF(marks); k++)
             last_records(at, marks[k]);
     }
@@ -212,7 +271,7 @@ static void tile_numbers(void)
                                        0x80000000, 0xFFFFFFFE, 0xFFFFFFFF, 0x01020304, 7,      7,       0xFFFFFFFF, 7};
     reel.length = 0;
     for (size_t k = 0; k < COUNT_OF(numbers); k++)
-        add_tile(5, 2, numbers[k]);
+        add_tile(k % 2 == 0 ? NEW_MARK : OLD_MARK, 5, 2, numbers[k]);
     walk_both_ways(reel.length);
 }
 
@@ -268,7 +327,7 @@ static void planted_headers(size_t length, size_t planted)
         uint8_t kept[HEADER];
         size_t p = size_above(chance_below(&chance, 23)), at = chance_below(&chance, length);
         memcpy(kept, &reel.bytes[at], HEADER);
-        put_header(at, p, house_slope(p), (uint32_t)k);
+        put_header(at, k % 2 == 0 ? NEW_MARK : OLD_MARK, p, house_slope(p), (uint32_t)k);
         memcpy(&reel.bytes[at + planted], &kept[planted], HEADER - planted);
     }
     each_place(length);
@@ -292,7 +351,7 @@ static void any_bytes(void)
         chance_bytes(&chance, reel.bytes, length);
         for (int k = 0; k < 3; k++) {
             size_t p = 4 + chance_below(&chance, 5);
-            put_header(chance_below(&chance, length - HEADER), p, 1 + chance_below(&chance, 6), 5);
+            put_header(chance_below(&chance, length - HEADER), k % 2 == 0 ? NEW_MARK : OLD_MARK, p, 1 + chance_below(&chance, 6), 5);
         }
         each_place(length);
     }
@@ -304,7 +363,9 @@ void cases_reel(void)
     small_reels();
     small_reels_mixed();
     faulty_headers();
-    faults_that_meet();
+    faults_that_meet(NEW_MARK);
+    faults_that_meet(OLD_MARK);
+    known_records();
     faults_behind_whole_records();
     tile_numbers();
     each_size();

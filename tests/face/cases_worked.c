@@ -1,5 +1,5 @@
-/* The worked tiles and the reel of SPEC 10, and the house slopes of SPEC 2.3. Both sides are asked, and the peer is held to what is written
- * there: two sides that were wrong in the same way would show here. */
+/* The worked tiles and the reel of SPEC 10, and the house slopes of SPEC 2.3. All sides are asked, and the peer is held to what is written
+ * there: sides that were wrong in the same way would show here. */
 
 #include <stddef.h>
 #include <stdint.h>
@@ -41,9 +41,9 @@ static void written(void)
     };
     for (size_t k = 0; k < sizeof tiles / sizeof tiles[0]; k++) {
         uint8_t tile[TILE] = {0}, text[TEXT] = {0};
-        uint64_t said = ask_write(5, 2, tiles[k].text, TEXT, tile, TILE);
+        uint64_t said = ask_write(CF_NEW, 5, 2, tiles[k].text, TEXT, tile, TILE);
         hold_tile(tiles[k].number, said, answer(CF_KIND_DONE, 0), tile, tiles[k].tile);
-        said = ask_read(5, 2, tile, TILE, text, TEXT);
+        said = ask_read(CF_NEW, 5, 2, tile, TILE, text, TEXT);
         hold(said == answer(CF_KIND_DONE, 0) && memcmp(text, tiles[k].text, TEXT) == 0, "worked tile %u is not read", tiles[k].number);
     }
 }
@@ -65,7 +65,7 @@ static void repaired(void)
     for (size_t k = 0; k < sizeof tiles / sizeof tiles[0]; k++) {
         uint8_t tile[TILE];
         memcpy(tile, tiles[k].before, TILE);
-        uint64_t said = ask_repair(5, 2, tile, TILE);
+        uint64_t said = ask_repair(CF_NEW, 5, 2, tile, TILE);
         hold_tile(tiles[k].number, said, tiles[k].answer, tile, tiles[k].after);
     }
 }
@@ -75,11 +75,11 @@ static void filled(void)
 {
     static const uint8_t nine[TILE] = {0, 1, 0, 1, 1, 1, 0, 0, 1, 0, 0, 0, 1, 0, 0, 0};
     uint8_t tile[TILE] = {9, 8, 7, 6, 5, 1, 0, 0, 4, 0, 0, 0, 3, 0, 0, 0};
-    uint64_t said = ask_fill(5, 2, tile, TILE, 0, 0x8000);
+    uint64_t said = ask_fill(CF_NEW, 5, 2, tile, TILE, 0, 0x8000);
     hold_tile(9, said, answer(CF_KIND_DONE, 0), tile, nine);
     const uint8_t ten[TILE] = {9, 8, 7, 6, 5, 0, 0, 0, 4, 0, 0, 1, 3, 0, 0, 0};
     memcpy(tile, ten, TILE);
-    said = ask_fill(5, 2, tile, TILE, 0, 0x8000);
+    said = ask_fill(CF_NEW, 5, 2, tile, TILE, 0, 0x8000);
     hold_tile(10, said, answer(CF_KIND_REFUSED, CF_DAMAGED), tile, ten);
 }
 
@@ -90,10 +90,10 @@ static void corrected(void)
     static const uint8_t after[TILE] = {1, 0, 0, 1, 0, 0, 1, 1, 0, 0, 1, 1, 0, 0, 1, 0};
     static const uint8_t one[TILE] = {1, 0, 0, 1, 0, 0, 1, 1, 0, 0, 1, 0, 0, 0, 1, 0};
     uint8_t tile[TILE] = {[11] = 1};
-    uint64_t count, said = ask_correct(5, 2, tile, TILE, sheet, sizeof sheet, &count);
+    uint64_t count, said = ask_correct(CF_NEW, 5, 2, tile, TILE, sheet, sizeof sheet, &count);
     hold_tile(11, said, answer(CF_KIND_DONE, 0), tile, after);
     hold(count == 1, "worked tile 11: the peer counts %u records", (unsigned)count);
-    said = ask_repair(5, 2, tile, TILE);
+    said = ask_repair(CF_NEW, 5, 2, tile, TILE);
     hold_tile(11, said, cell(2, 3), tile, one);
 }
 
@@ -101,23 +101,77 @@ static void corrected(void)
 static void refused(void)
 {
     static const struct {
-        size_t p, l, length;
+        size_t kind, p, l, length;
         unsigned number;
     } tiles[] = {
-        {4, 2, 9, 1},  {9, 2, 64, 1},     {258, 3, 66049, 1}, {257, 3, 65536, 0}, {7, 2, 36, 2}, {7, 6, 36, 2},
-        {7, 3, 36, 0}, {7, 5, 36, 0},     {5, 2, 15, 3},      {5, 2, 17, 3},      {5, 2, 16, 0},
+        {CF_NEW, 4, 2, 9, 1},      {CF_NEW, 9, 2, 64, 1},  {CF_NEW, 258, 3, 66049, 1}, {CF_NEW, 257, 3, 65536, 0}, {CF_NEW, 7, 2, 36, 2},
+        {CF_NEW, 7, 6, 36, 2},     {CF_NEW, 7, 10, 36, 2}, {CF_NEW, 7, 3, 36, 0},      {CF_NEW, 7, 5, 36, 0},      {CF_OLD, 7, 1, 36, 2},
+        {CF_OLD, 7, 2, 36, 0},     {CF_OLD, 7, 3, 36, 0},  {CF_OLD, 7, 4, 36, 0},      {CF_OLD, 7, 5, 36, 0},      {CF_OLD, 7, 6, 36, 2},
+        {CF_NEW, 5, 2, 15, 3},     {CF_NEW, 5, 2, 17, 3},  {CF_NEW, 5, 2, 16, 0},
     };
     static uint8_t zeros[66049];
     for (size_t k = 0; k < sizeof tiles / sizeof tiles[0]; k++) {
-        uint64_t said = ask_repair(tiles[k].p, tiles[k].l, zeros, tiles[k].length);
+        uint64_t said = ask_repair(tiles[k].kind, tiles[k].p, tiles[k].l, zeros, tiles[k].length);
         uint64_t asked = tiles[k].number == 0 ? answer(CF_KIND_DONE, 0) : answer(CF_KIND_REFUSED, tiles[k].number);
-        hold(said == asked, "number 12: the peer says otherwise of p %zu, l %zu", tiles[k].p, tiles[k].l);
+        hold(said == asked, "number 12: the peer says otherwise of kind %zu, p %zu, l %zu", tiles[k].kind, tiles[k].p, tiles[k].l);
     }
     for (uint8_t column = 1; column <= 2; column++) {
         uint8_t sheet[] = {0xC3, 0x3C, 0, 0, 0, column, 0, 0}, tile[TILE] = {0};
-        uint64_t count, said = ask_correct(5, 2, tile, TILE, sheet, sizeof sheet, &count);
+        uint64_t count, said = ask_correct(CF_NEW, 5, 2, tile, TILE, sheet, sizeof sheet, &count);
         hold(said == (column == 1 ? answer(CF_KIND_DONE, 0) : answer(CF_KIND_REFUSED, CF_BAD_PLACE)), "number 12: a correction's column");
     }
+}
+
+/* Tiles 13 to 17: old ones at p 7 and l 2, with 1 in some cells and 0 in all others. */
+enum { OLD_TILE = 36, OLD_TEXT = 24 };
+
+/* 1 in row 0, and in column 0, at the places 1, 2 and 4; what is written E there. */
+static const uint8_t e[OLD_TILE] = {[1] = 1, [2] = 1, [4] = 1, [1 * 6] = 1, [2 * 6] = 1, [4 * 6] = 1};
+
+static void old_filled(void)
+{
+    static const struct {
+        unsigned number, refusal;
+        uint8_t tile[OLD_TILE];
+    } tiles[] = {{13, CF_DOUBTFUL, {0}}, {15, CF_DAMAGED, {[1 * 6 + 1] = 1}}};
+    for (size_t k = 0; k < sizeof tiles / sizeof tiles[0]; k++) {
+        uint8_t tile[OLD_TILE];
+        memcpy(tile, tiles[k].tile, OLD_TILE);
+        uint64_t said = ask_fill(CF_OLD, 7, 2, tile, OLD_TILE, cf_row(0), cf_column(0));
+        hold(said == answer(CF_KIND_REFUSED, tiles[k].refusal) && memcmp(tile, tiles[k].tile, OLD_TILE) == 0,
+             "worked tile %u: the peer says otherwise than SPEC 10", tiles[k].number);
+    }
+}
+
+static void old_repaired(void)
+{
+    const struct {
+        unsigned number;
+        uint64_t answer;
+        uint8_t before[OLD_TILE], after[OLD_TILE];
+    } tiles[] = {
+        {14, answer(CF_KIND_REFUSED, CF_DOUBTFUL), {[1 * 6] = 1, [2 * 6] = 1, [4 * 6] = 1}, {[1 * 6] = 1, [2 * 6] = 1, [4 * 6] = 1}},
+        {16, cell(1, 1), {[1 * 6 + 1] = 1}, {0}},
+    };
+    for (size_t k = 0; k < sizeof tiles / sizeof tiles[0]; k++) {
+        uint8_t tile[OLD_TILE];
+        memcpy(tile, tiles[k].before, OLD_TILE);
+        uint64_t said = ask_repair(CF_OLD, 7, 2, tile, OLD_TILE);
+        hold(said == tiles[k].answer && memcmp(tile, tiles[k].after, OLD_TILE) == 0, "worked tile %u: the peer says otherwise than SPEC 10",
+             tiles[k].number);
+    }
+}
+
+/* Tile 17: E is clean, and is read; its text is its columns 0 to 3. */
+static void old_read(void)
+{
+    static const uint8_t text_of_e[OLD_TEXT] = {[1] = 1, [2] = 1, [1 * 4] = 1, [2 * 4] = 1, [4 * 4] = 1};
+    uint8_t tile[OLD_TILE], text[OLD_TEXT] = {9, 8, 7};
+    memcpy(tile, e, OLD_TILE);
+    uint64_t said = ask_repair(CF_OLD, 7, 2, tile, OLD_TILE);
+    hold(said == answer(CF_KIND_DONE, 0) && memcmp(tile, e, OLD_TILE) == 0, "worked tile 17: the peer does not find it clean");
+    said = ask_read(CF_OLD, 7, 2, tile, OLD_TILE, text, OLD_TEXT);
+    hold(said == answer(CF_KIND_DONE, 0) && memcmp(text, text_of_e, OLD_TEXT) == 0, "worked tile 17: the peer does not read it");
 }
 
 /* The whole reel: two tiles and one byte more. */
@@ -132,10 +186,10 @@ static void walked(void)
         unsigned kind, first;
         struct found found;
     } places[] = {
-        {0, CF_KIND_DONE, 0, {7, 5, 2, 10}},
-        {26, CF_KIND_DONE, 0, {8, 5, 2, 36}},
-        {52, CF_KIND_REFUSED, CF_CUT_SHORT, {0, 0, 0, 52}},
-        {53, CF_KIND_END, 0, {0, 0, 0, 0}},
+        {0, CF_KIND_DONE, 0, {CF_NEW, 7, 5, 2, 10}},
+        {26, CF_KIND_DONE, 0, {CF_NEW, 8, 5, 2, 36}},
+        {52, CF_KIND_REFUSED, CF_CUT_SHORT, {0, 0, 0, 0, 52}},
+        {53, CF_KIND_END, 0, {0, 0, 0, 0, 0}},
     };
     for (size_t k = 0; k < sizeof places / sizeof places[0]; k++) {
         struct found found;
@@ -162,7 +216,7 @@ static void reel_repaired(void)
     for (size_t k = 0; k < sizeof tiles / sizeof tiles[0]; k++) {
         uint8_t tile[TILE];
         memcpy(tile, &reel[tiles[k].offset], TILE);
-        uint64_t said = ask_repair(5, 2, tile, TILE);
+        uint64_t said = ask_repair(CF_NEW, 5, 2, tile, TILE);
         hold(said == tiles[k].answer && memcmp(tile, zeros, TILE) == 0, "the reel of SPEC 10: the peer says otherwise of a tile's state");
     }
 }
@@ -198,6 +252,9 @@ void cases_worked(void)
     filled();
     corrected();
     refused();
+    old_filled();
+    old_repaired();
+    old_read();
     walked();
     reel_repaired();
     house_slopes();

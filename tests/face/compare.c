@@ -18,6 +18,7 @@ int main(void)
         {"writing and reading", cases_tile},
         {"repair", cases_repair},
         {"fill", cases_fill},
+        {"old tiles that are doubtful", cases_doubtful},
         {"correction sheets", cases_sheet},
         {"reels", cases_reel},
         {"edges, and two faults at once", cases_edges},

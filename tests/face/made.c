@@ -45,6 +45,14 @@ size_t slope_above(size_t p, size_t l)
     return 0;
 }
 
+size_t old_slope_above(size_t p, size_t l)
+{
+    while (l++ < p - 2)
+        if (l >= 2 && !allows(p, l))
+            return l;
+    return 0;
+}
+
 size_t house_slope(size_t p)
 {
     return slope_above(p, 0);
@@ -64,29 +72,52 @@ size_t some_slope(struct chance *chance, size_t p)
     return slope != 0 ? slope : house_slope(p);
 }
 
-void for_small_sizes(size_t largest, void (*with)(size_t p, size_t l))
+size_t some_old_slope(struct chance *chance, size_t p)
+{
+    size_t slope = old_slope_above(p, chance_below(chance, p));
+    return slope != 0 ? slope : old_slope_above(p, 0);
+}
+
+void for_small_sizes(size_t largest, with_tile with)
 {
     for (size_t p = size_above(0); p <= largest; p = size_above(p))
         for (size_t l = house_slope(p); l != 0; l = slope_above(p, l))
-            with(p, l);
+            with(NEW, p, l);
 }
 
-void for_all_sizes(struct chance *chance, void (*with)(size_t p, size_t l))
+void for_small_old_sizes(size_t largest, with_tile with)
+{
+    for (size_t p = size_above(0); p <= largest; p = size_above(p))
+        for (size_t l = old_slope_above(p, 0); l != 0; l = old_slope_above(p, l))
+            with(OLD, p, l);
+}
+
+void for_all_sizes(struct chance *chance, with_tile with)
 {
     for (size_t p = size_above(0); p != 0; p = size_above(p)) {
-        with(p, house_slope(p));
-        with(p, largest_slope(p));
-        with(p, some_slope(chance, p));
+        with(NEW, p, house_slope(p));
+        with(NEW, p, largest_slope(p));
+        with(NEW, p, some_slope(chance, p));
     }
 }
 
-void make_text(struct chance *chance, size_t p, enum text_kind kind, uint8_t *text)
+void for_some_old_sizes(struct chance *chance, with_tile with)
 {
-    static const uint8_t byte_of_kind[TEXT_KINDS] = {0x00, 0xFF, 0x01, 0x00};
-    if (kind == TEXT_OF_ANY)
+    size_t above = 0;
+    for (size_t p = size_above(5); p != 0; p = size_above(p)) {
+        above += p > SMALL_SIZE;
+        if (above % 4 == 0)
+            with(OLD, p, some_old_slope(chance, p));
+    }
+}
+
+void make_text(struct chance *chance, size_t p, enum text_kind filled_with, uint8_t *text)
+{
+    static const uint8_t byte_of[TEXT_KINDS] = {0x00, 0xFF, 0x01, 0x00};
+    if (filled_with == TEXT_OF_ANY)
         chance_bytes(chance, text, text_length(p));
     else
-        memset(text, byte_of_kind[kind], text_length(p));
+        memset(text, byte_of[filled_with], text_length(p));
 }
 
 void make_tile(struct chance *chance, size_t p, size_t l, uint8_t *tile)
@@ -94,6 +125,21 @@ void make_tile(struct chance *chance, size_t p, size_t l, uint8_t *tile)
     static uint8_t text[LARGEST_TEXT];
     make_text(chance, p, TEXT_OF_ANY, text);
     make_good(p, l, text, tile);
+}
+
+int has_one_sum(size_t p, size_t l, const uint8_t *tile)
+{
+    uint8_t sums[2][LARGEST_SIZE] = {{0}};
+    for (size_t row = 0; row < p - 1; row++) {
+        for (size_t column = 0; column < p - 1; column++) {
+            sums[0][(row + column) % p] ^= tile[row * (p - 1) + column];
+            sums[1][(row + l * column) % p] ^= tile[row * (p - 1) + column];
+        }
+    }
+    for (size_t t = 0; t < p; t++)
+        if (sums[0][t] != sums[0][0] || sums[1][t] != sums[0][0])
+            return 0;
+    return 1;
 }
 
 void make_garbage(struct chance *chance, size_t p, uint8_t *tile, enum garbage garbage)
@@ -112,6 +158,11 @@ size_t row_name(size_t row)
 size_t column_name(size_t column)
 {
     return 0x8000 + column;
+}
+
+int is_row(size_t line)
+{
+    return line < 0x8000;
 }
 
 size_t nth_line(size_t p, size_t n)
@@ -136,7 +187,7 @@ size_t some_line(struct chance *chance, size_t p)
 
 size_t place_on_line(size_t p, size_t line, size_t n)
 {
-    return line < 0x8000 ? line * (p - 1) + n : n * (p - 1) + (line - 0x8000);
+    return is_row(line) ? line * (p - 1) + n : n * (p - 1) + (line - 0x8000);
 }
 
 void hurt_line(struct chance *chance, size_t p, uint8_t *tile, size_t line, enum hurt hurt)

@@ -1,4 +1,4 @@
-/* What the cases are made of: sizes and slopes to go through, texts, good tiles, and damage. */
+/* What the cases are made of: sizes, slopes and kinds to go through, texts, good tiles, and damage. */
 
 #ifndef MADE_H
 #define MADE_H
@@ -19,25 +19,40 @@ extern const size_t far_numbers[FAR_NUMBERS];
 /* The smallest size above p, or 0 where there is none. */
 size_t size_above(size_t p);
 
-/* The smallest slope above l that the size p allows, or 0 where there is none. */
+/* The smallest slope above l that the size p allows, or 0 where there is none; and the smallest one, up to p-2, that it does not allow. */
 size_t slope_above(size_t p, size_t l);
+size_t old_slope_above(size_t p, size_t l);
 
 size_t house_slope(size_t p);
 size_t some_slope(struct chance *chance, size_t p);
 
-/* Does the same with every size up to a largest, which is below 257, and each slope that it allows. */
-void for_small_sizes(size_t largest, void (*with)(size_t p, size_t l));
+/* A slope that is not allowed at p, for a size above 5, which has none. */
+size_t some_old_slope(struct chance *chance, size_t p);
 
-/* Does the same with every size, with the smallest slope that it allows, the largest, and any. */
-void for_all_sizes(struct chance *chance, void (*with)(size_t p, size_t l));
+/* What is done with a kind, a size and a slope that the kind takes there. */
+typedef void (*with_tile)(size_t kind, size_t p, size_t l);
+
+/* Does the same with every size up to a largest, which is below 257: as of a new tile, with each slope that the size allows; and as of an
+ * old tile, with each slope from 2 to p-2 that it does not allow. (Old tiles with the other slopes come with the new ones: see ask.h.) */
+void for_small_sizes(size_t largest, with_tile with);
+void for_small_old_sizes(size_t largest, with_tile with);
+
+/* Does the same with every size, as of a new tile, with the smallest slope that it allows, the largest, and any. */
+void for_all_sizes(struct chance *chance, with_tile with);
+
+/* Does the same with the sizes from 7 to 31 and every fourth above, to 257, as of an old tile, with some slope that is not allowed. */
+void for_some_old_sizes(struct chance *chance, with_tile with);
 
 /* The texts that are tried: each byte 0, each FF hex, each 1, any. */
 enum text_kind { TEXT_OF_ZEROS, TEXT_OF_FF, TEXT_OF_ONES, TEXT_OF_ANY, TEXT_KINDS };
 
-void make_text(struct chance *chance, size_t p, enum text_kind kind, uint8_t *text);
+void make_text(struct chance *chance, size_t p, enum text_kind filled_with, uint8_t *text);
 
 /* The good tile of a text of any bytes. */
 void make_tile(struct chance *chance, size_t p, size_t l, uint8_t *tile);
+
+/* Whether all the sums of a tile are one byte: SPEC 4.3, taken at its word. */
+int has_one_sum(size_t p, size_t l, const uint8_t *tile);
 
 /* A tile of any bytes, and one of which each byte is 0 or 1: of such many can be repaired or filled, though nobody wrote them. */
 enum garbage { GARBAGE_OF_BYTES, GARBAGE_OF_BITS, GARBAGES };
@@ -50,6 +65,8 @@ size_t column_name(size_t column);
 
 /* The n-th of the lines of a tile of size p: its rows, then its columns. */
 size_t nth_line(size_t p, size_t n);
+
+int is_row(size_t line);
 
 /* A row, a column, or either, of a tile of size p. */
 size_t some_row(struct chance *chance, size_t p);

@@ -15,10 +15,16 @@ int is_size(size_t p)
     return 1;
 }
 
+/* SPEC 2.2, what every slope is, allowed or not. */
+static int is_slope(size_t p, size_t l)
+{
+    return l >= 2 && l <= p - 2;
+}
+
 /* SPEC 2.2: the p-1 powers from l^0 on are marked by their remainders, and none from 1 to p-1 is missing. */
 int allows(size_t p, size_t l)
 {
-    if (l < 2 || l > p - 2)
+    if (!is_slope(p, l))
         return 0;
     uint8_t reached[LARGEST_SIZE] = {0};
     size_t power = 1;
@@ -44,20 +50,20 @@ size_t text_length(size_t p)
     return (p - 1) * (p - 3);
 }
 
-/* SPEC 2.4. */
-enum refusal judge_slope(size_t p, size_t l)
+/* SPEC 2.4, with 2.5 for what each kind takes. */
+enum refusal judge_slope(size_t kind, size_t p, size_t l)
 {
     if (!is_size(p))
         return BAD_SIZE;
-    if (!allows(p, l))
+    if (kind == OLD ? !is_slope(p, l) : !allows(p, l))
         return BAD_SLOPE;
     return ACCEPTED;
 }
 
 /* SPEC 9.2, of a tile's length (SPEC 3.1). */
-enum refusal judge_tile(size_t p, size_t l, size_t tile_len)
+enum refusal judge_tile(size_t kind, size_t p, size_t l, size_t tile_len)
 {
-    enum refusal refusal = judge_slope(p, l);
+    enum refusal refusal = judge_slope(kind, p, l);
     if (refusal == ACCEPTED && tile_len != tile_length(p))
         return BAD_LENGTH;
     return refusal;
@@ -116,8 +122,8 @@ uint64_t peer_house_slope(size_t p)
 }
 
 /* SPEC 2.4. */
-uint64_t peer_takes(size_t p, size_t l)
+uint64_t peer_takes(size_t kind, size_t p, size_t l)
 {
-    enum refusal refusal = judge_slope(p, l);
+    enum refusal refusal = judge_slope(kind, p, l);
     return refusal == ACCEPTED ? word_done() : word_refused(refusal);
 }

@@ -10,8 +10,11 @@
 /* SPEC 2.1, 3.1 and 3.2. */
 enum { LARGEST_SIZE = 257, LARGEST_TILE = 256 * 256, LARGEST_TEXT = 256 * 254 };
 
-/* SPEC 9.1. ACCEPTED is the judgement that none of the seven is to be said. */
-enum refusal { ACCEPTED, BAD_SIZE, BAD_SLOPE, BAD_LENGTH, BAD_PLACE, DAMAGED, BAD_MARK, CUT_SHORT };
+/* SPEC 9.1. ACCEPTED is the judgement that none of the eight is to be said. */
+enum refusal { ACCEPTED, BAD_SIZE, BAD_SLOPE, BAD_LENGTH, BAD_PLACE, DAMAGED, BAD_MARK, CUT_SHORT, DOUBTFUL };
+
+/* SPEC 11.5: the number of each kind (SPEC 2.5). Every other number counts as new. */
+enum { NEW = 0, OLD = 1 };
 
 /* SPEC 2.1. */
 int is_size(size_t p);
@@ -23,11 +26,11 @@ int allows(size_t p, size_t l);
 size_t tile_length(size_t p);
 size_t text_length(size_t p);
 
-/* SPEC 2.4, p and l judged together: 1 or 2. */
-enum refusal judge_slope(size_t p, size_t l);
+/* SPEC 2.4, a kind, p and l judged together: 1 or 2. */
+enum refusal judge_slope(size_t kind, size_t p, size_t l);
 
 /* SPEC 9.2, for a call that is lent a tile: 1, 2 or 3. */
-enum refusal judge_tile(size_t p, size_t l, size_t tile_len);
+enum refusal judge_tile(size_t kind, size_t p, size_t l, size_t tile_len);
 
 /* SPEC 11.1: kind * 2^32 + first * 2^16 + second. The second is 0 in all of them but the cell's. */
 uint64_t word_done(void);

@@ -64,12 +64,12 @@ static void text_of_differences(size_t p, const uint8_t *sheet, size_t sheet_len
 }
 
 /* SPEC 6.3 and 6.4; SPEC 11.2 for the number. */
-uint64_t peer_correct(size_t p, size_t l, uint8_t *tile, size_t tile_len, const uint8_t *sheet, size_t sheet_len,
+uint64_t peer_correct(size_t kind, size_t p, size_t l, uint8_t *tile, size_t tile_len, const uint8_t *sheet, size_t sheet_len,
                       uint64_t *count_or_offset)
 {
     static uint8_t differences[LARGEST_TEXT], added[LARGEST_TILE];
     *count_or_offset = 0;
-    enum refusal refusal = judge_tile(p, l, tile_len);
+    enum refusal refusal = judge_tile(kind, p, l, tile_len);
     if (refusal == ACCEPTED)
         refusal = judge_sheet(p, sheet, sheet_len, count_or_offset);
     if (refusal != ACCEPTED)

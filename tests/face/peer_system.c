@@ -2,8 +2,6 @@
 
 #include "peer_system.h"
 
-#include <stdio.h>
-#include <stdlib.h>
 #include <string.h>
 
 /* The unknowns are the cells of two strips, and the common byte. */
@@ -226,14 +224,19 @@ static int take_all(struct system *system)
     return 1;
 }
 
+/* Whether an unknown is left free, when all equations are taken: none of them begins with it, and so it may be any byte. */
+static int leaves_a_choice(const struct system *system)
+{
+    for (size_t unknown = 0; unknown < system->unknowns; unknown++)
+        if (system->leading[unknown] == NULL)
+            return 1;
+    return 0;
+}
+
 /* The byte of an unknown, when those of all later unknowns are known. */
 static uint8_t substituted(const struct system *system, const uint8_t *byte, size_t unknown)
 {
     const struct equation *equation = system->leading[unknown];
-    if (equation == NULL) {
-        fprintf(stderr, "the peer: an unknown is left free, though by SPEC 4.5 there are no two such tiles\n");
-        exit(2);
-    }
     uint8_t value = equation->right_side;
     for (size_t word = unknown / 64; word < system->words; word++) {
         for (uint64_t left = equation->coefficients[word]; left != 0; left &= left - 1) {
@@ -245,18 +248,21 @@ static uint8_t substituted(const struct system *system, const uint8_t *byte, siz
     return value;
 }
 
-int solve(const struct given_tile *tile, const struct strip *strips, size_t count, uint8_t *copy)
+/* SPEC 5.5: with an unknown that is left free there are several solutions, and no two of them have the same cells. */
+enum solutions solve(const struct given_tile *tile, const struct strip *strips, size_t count, uint8_t *copy)
 {
     static struct system system;
     uint8_t byte[MOST_UNKNOWNS];
     set_up(&system, tile, strips, count);
     if (!take_all(&system))
-        return 0;
+        return NO_SOLUTION;
+    if (leaves_a_choice(&system))
+        return SEVERAL_SOLUTIONS;
     for (size_t unknown = system.unknowns; unknown-- > 0;)
         byte[unknown] = substituted(&system, byte, unknown);
     for (size_t s = 0; s < system.strips; s++)
         for (size_t n = 0; n < tile->p - 1; n++)
             if (s == 0 || n != system.shared)
                 copy[place_of(tile, system.strip[s], n)] = byte[unknown_of(&system, s, n)];
-    return 1;
+    return ONE_SOLUTION;
 }

@@ -24,7 +24,7 @@ struct given_tile {
     size_t in_order[2 * LARGEST_SIZE]; /* the lines, in the order in which elimination takes their equations */
 };
 
-/* For a size p and a slope l that is allowed there. */
+/* For a size p and a slope l from 2 to p-2. */
 void give_tile(struct given_tile *tile, size_t p, size_t l, const uint8_t *bytes);
 
 /* A row or a column, which SPEC 3.4 calls a line of the tile. */
@@ -33,9 +33,11 @@ struct strip {
     size_t number;
 };
 
-/* Finds the bytes that the cells of some strips, none, one or two, must have for the tile to be good. What it holds there does not matter.
- * They are laid into a copy of the tile's bytes, or into these themselves. Gives 0 where there are no such bytes, and otherwise 1. By
- * SPEC 4.5 there are never two solutions: where an unknown is left free, the program is stopped. */
-int solve(const struct given_tile *tile, const struct strip *strips, size_t count, uint8_t *copy);
+/* How many good tiles there are. */
+enum solutions { NO_SOLUTION, ONE_SOLUTION, SEVERAL_SOLUTIONS };
+
+/* Counts the ways to give bytes to the cells of some strips, none, one or two, so that the tile is good. What it holds there does not
+ * matter. If there is one way, the bytes are laid into a copy of the tile's bytes, or into these themselves; otherwise nothing is. */
+enum solutions solve(const struct given_tile *tile, const struct strip *strips, size_t count, uint8_t *copy);
 
 #endif

@@ -11,11 +11,12 @@
 /* SPEC 4.3: the equations hold as the tile stands. No cell is unknown then, only the common byte. */
 static int is_good(const struct given_tile *given)
 {
-    return solve(given, NULL, 0, NULL);
+    return solve(given, NULL, 0, NULL) == ONE_SOLUTION;
 }
 
-/* SPEC 5.4: the tile becomes the good one that agrees with it outside the two strips. Gives 0 where there is none, and leaves it. */
-static int fill_strips(size_t p, size_t l, uint8_t *tile, struct strip first, struct strip second)
+/* SPEC 5.4: counts the good tiles that agree with the tile outside the two strips. If there is one, the tile becomes that one; otherwise
+ * it is left. */
+static enum solutions fill_strips(size_t p, size_t l, uint8_t *tile, struct strip first, struct strip second)
 {
     struct given_tile given;
     give_tile(&given, p, l, tile);
@@ -23,7 +24,7 @@ static int fill_strips(size_t p, size_t l, uint8_t *tile, struct strip first, st
     return solve(&given, strips, 2, tile);
 }
 
-/* The text is laid into its columns (SPEC 3.2), and the check columns are filled (SPEC 5.5). There is such a tile (SPEC 4.5). */
+/* The text is laid into its columns (SPEC 3.2), and the check columns are filled (SPEC 5.5). There is one such tile (SPEC 4.5). */
 void make_good(size_t p, size_t l, const uint8_t *text, uint8_t *tile)
 {
     struct strip first_checks = {1, p - 3}, second_checks = {1, p - 2};
@@ -33,18 +34,18 @@ void make_good(size_t p, size_t l, const uint8_t *text, uint8_t *tile)
 }
 
 /* SPEC 9.2, of a tile's length and a text's (SPEC 3.1 and 3.2): 1, 2 or 3. */
-static enum refusal judge_text(size_t p, size_t l, size_t tile_len, size_t text_len)
+static enum refusal judge_text(size_t kind, size_t p, size_t l, size_t tile_len, size_t text_len)
 {
-    enum refusal refusal = judge_tile(p, l, tile_len);
+    enum refusal refusal = judge_tile(kind, p, l, tile_len);
     if (refusal == ACCEPTED && text_len != text_length(p))
         return BAD_LENGTH;
     return refusal;
 }
 
 /* SPEC 5.1: what the tile held has no influence. */
-uint64_t peer_write(size_t p, size_t l, const uint8_t *text, size_t text_len, uint8_t *tile, size_t tile_len)
+uint64_t peer_write(size_t kind, size_t p, size_t l, const uint8_t *text, size_t text_len, uint8_t *tile, size_t tile_len)
 {
-    enum refusal refusal = judge_text(p, l, tile_len, text_len);
+    enum refusal refusal = judge_text(kind, p, l, tile_len, text_len);
     if (refusal != ACCEPTED)
         return word_refused(refusal);
     make_good(p, l, text, tile);
@@ -52,9 +53,9 @@ uint64_t peer_write(size_t p, size_t l, const uint8_t *text, size_t text_len, ui
 }
 
 /* SPEC 5.2: 5 for a tile that is not good. */
-uint64_t peer_read(size_t p, size_t l, const uint8_t *tile, size_t tile_len, uint8_t *text, size_t text_len)
+uint64_t peer_read(size_t kind, size_t p, size_t l, const uint8_t *tile, size_t tile_len, uint8_t *text, size_t text_len)
 {
-    enum refusal refusal = judge_text(p, l, tile_len, text_len);
+    enum refusal refusal = judge_text(kind, p, l, tile_len, text_len);
     if (refusal != ACCEPTED)
         return word_refused(refusal);
     struct given_tile given;
@@ -66,18 +67,34 @@ uint64_t peer_read(size_t p, size_t l, const uint8_t *tile, size_t tile_len, uin
     return word_done();
 }
 
-/* SPEC 5.3, step 2: takes one column after the other as unknown, and then one row after the other, until there is a solution, which the
- * tile becomes. Gives 0 where there is none. The order does not matter: all that have a solution have the same one. */
-static int repair_one(const struct given_tile *given, uint8_t *tile)
+/* SPEC 5.3 and 5.4: done with one good tile, 5 where there is none, 8 where there are several. */
+static uint64_t word_solved(enum solutions solutions)
 {
-    for (int is_column = 1; is_column >= 0; is_column--) {
-        for (size_t number = 0; number < given->p - 1; number++) {
-            struct strip strip = {is_column, number};
-            if (solve(given, &strip, 1, tile))
-                return 1;
-        }
+    if (solutions == ONE_SOLUTION)
+        return word_done();
+    return word_refused(solutions == NO_SOLUTION ? DAMAGED : DOUBTFUL);
+}
+
+/* SPEC 5.3, step 2: takes each column and each row in turn as unknown, and counts the different good tiles that come out. If there is
+ * one, it is laid into `good`. */
+static enum solutions explain(const struct given_tile *given, uint8_t *good)
+{
+    static uint8_t tried[LARGEST_TILE];
+    enum solutions found = NO_SOLUTION;
+    size_t length = tile_length(given->p);
+    memcpy(tried, given->bytes, length);
+    for (size_t n = 0; n < 2 * (given->p - 1); n++) {
+        struct strip strip = {n % 2 == 0, n / 2};
+        enum solutions explained = solve(given, &strip, 1, tried);
+        if (explained == NO_SOLUTION)
+            continue;
+        if (explained == SEVERAL_SOLUTIONS || (found == ONE_SOLUTION && memcmp(tried, good, length) != 0))
+            return SEVERAL_SOLUTIONS;
+        found = ONE_SOLUTION;
+        memcpy(good, tried, length);
+        memcpy(tried, given->bytes, length);
     }
-    return 0;
+    return found;
 }
 
 /* SPEC 5.3, step 3: all cells of the two tiles are compared, and those in which they differ (SPEC 3.4) are counted. One is told by its row
@@ -100,19 +117,23 @@ static uint64_t name_difference(size_t p, const uint8_t *lent, const uint8_t *go
     return is_one_column ? word_column(column) : word_row(row);
 }
 
-/* SPEC 5.3: clean; or the name of what the good tile differs in; or 5. */
-uint64_t peer_repair(size_t p, size_t l, uint8_t *tile, size_t tile_len)
+/* SPEC 5.3: clean; or the name of what the one good tile differs in; or 5 where there is none, and 8 where there are several. */
+uint64_t peer_repair(size_t kind, size_t p, size_t l, uint8_t *tile, size_t tile_len)
 {
-    static uint8_t lent[LARGEST_TILE];
-    enum refusal refusal = judge_tile(p, l, tile_len);
+    static uint8_t good[LARGEST_TILE];
+    enum refusal refusal = judge_tile(kind, p, l, tile_len);
     if (refusal != ACCEPTED)
         return word_refused(refusal);
     struct given_tile given;
     give_tile(&given, p, l, tile);
     if (is_good(&given))
         return word_done();
-    memcpy(lent, tile, tile_len);
-    return repair_one(&given, tile) ? name_difference(p, lent, tile) : word_refused(DAMAGED);
+    enum solutions found = explain(&given, good);
+    if (found != ONE_SOLUTION)
+        return word_solved(found);
+    uint64_t name = name_difference(p, tile, good);
+    memcpy(tile, good, tile_len);
+    return name;
 }
 
 /* SPEC 11.3: rows below 8000 hex, columns from there on. */
@@ -122,13 +143,13 @@ static struct strip named(size_t name)
     return name < 0x8000 ? row : column;
 }
 
-/* SPEC 5.4, with 4 before 5 (SPEC 9.2). What the lines hold has no influence. */
-uint64_t peer_fill(size_t p, size_t l, uint8_t *tile, size_t tile_len, size_t first, size_t second)
+/* SPEC 5.4, with 4 before 5 and 8 (SPEC 9.2). What the lines hold has no influence. */
+uint64_t peer_fill(size_t kind, size_t p, size_t l, uint8_t *tile, size_t tile_len, size_t first, size_t second)
 {
-    enum refusal refusal = judge_tile(p, l, tile_len);
+    enum refusal refusal = judge_tile(kind, p, l, tile_len);
     if (refusal != ACCEPTED)
         return word_refused(refusal);
     if (named(first).number > p - 2 || named(second).number > p - 2)
         return word_refused(BAD_PLACE);
-    return fill_strips(p, l, tile, named(first), named(second)) ? word_done() : word_refused(DAMAGED);
+    return word_solved(fill_strips(p, l, tile, named(first), named(second)));
 }

@@ -6,7 +6,7 @@
 #include <stddef.h>
 #include <stdint.h>
 
-/* SPEC 5.1, without the judgement: makes the good tile that has the text, for a size p and a slope l that is allowed there. */
+/* SPEC 5.1, without the judgement: makes the good tile that has the text, for a size p and a slope l from 2 to p-2. */
 void make_good(size_t p, size_t l, const uint8_t *text, uint8_t *tile);
 
 #endif

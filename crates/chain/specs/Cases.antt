@@ -1,8 +1,7 @@
--- Whether one or two flagged lines have a change that settles the sums, case by case: one column, two columns, a column with a row, and rows
+-- How many changes in one or two flagged lines settle the sums, case by case: one column, two columns, a column with a row, and rows
 -- as columns of the turned tile. Assumes nothing.
 use mathlib.Core.Path.{_≡_, refl, sym, ap, _∙_}
-use mathlib.Core.Logic.{_≢_}
-use mathlib.Core.Bool.{Bool, true, false}
+use mathlib.Core.Logic.{_≢_, inl, inr}
 use mathlib.Core.List.{List}
 use Prim.Native.Nat.{ℕ, _-_, _*_, _%_, _<_}
 use native.Mathlib.Omega.{arith}
@@ -10,7 +9,8 @@ use lib.Dec.{eqb}
 use Rattle.xor.specs.Xor.{_⊕_, comm, self, zero-r}
 use Rattle.xor.specs.Sum.{xorBelow, ext, keep-zero}
 use Rattle.residue.specs.Power.{ReachesAll}
-use Rattle.code.specs.Slope.{Slope, slope-inverse}
+use Rattle.residue.specs.Order.{Order, order-reaches}
+use Rattle.code.specs.Slope.{Slope, slope-pos, slope-inverse}
 use Rattle.code.specs.Tile.{Cells, line, sum}
 use Rattle.code.specs.Sums.{plus, totals}
 use Rattle.code.specs.Settle.{settles-ext, settles-sums}
@@ -19,13 +19,17 @@ use Rattle.code.specs.OneLine.{Agree, shifted, along, along-ext, one-line-agree
 use Rattle.code.specs.Pair.{pair-crossing}
 use Rattle.code.specs.Columns.{stride, stride-is, rowBy, stopBy}
 use Rattle.code.specs.Crossed.{cellBy}
+use Rattle.code.specs.Classes.{ClassesAgree, classes-settled, settles-classes}
 use Rattle.code.specs.Existence.{columns-closing, crossed-closing, turned-total}
+use Rattle.code.specs.Distance.{Parallel}
+use Rattle.code.specs.Fillings.{Sure}
 use Rattle.code.specs.declared.Line.{Line}
 use Rattle.code.specs.declared.Line.the-variants.{Row, Column}
 use Rattle.code.specs.Held.{held}
 use Rattle.walk.specs.Sums.{Sums}
 use Rattle.search.specs.Column.{Shifted}
-use Rattle.chain.specs.Solve.{SettledBy, Unsettled, Solved, Closes}
+use Rattle.chain.specs.Solve.{SettledBy, SettledSome, Solved, none, one, several, Closes}
+use Rattle.chain.specs.declared.filling.Fillings.{Fillings}
 
 -- the sums of both slopes have one total, also as arrays hold them
 pub held-totals : (p l : ℕ) (T : Cells) (a b : List ℕ) → Sums p 1 T a → Sums p l T b → xorBelow p (held a) ≡ xorBelow p (held b)
@@ -35,35 +39,63 @@ held-totals p l T a b ha hb = ext p (held a) (sum p 1 T) ha ∙ totals p 1 l T �
 pub held-turned : (p l : ℕ) (A B B′ : ℕ → ℕ) → Slope p l → ((t : ℕ) → t < p → B′ t ≡ B (l * t % p)) → xorBelow p A ≡ xorBelow p B → xorBelow p A ≡ xorBelow p B′
 held-turned p l A B B′ S h e = e ∙ sym (ext p B′ (λ t. B (l * t % p)) h ∙ turned-total p l B S)
 
-module _ (p l : ℕ) (a b : Line) (A B : ℕ → ℕ) (x y : ℕ → ℕ) where
+-- two lines are sure in either order
+sure-either : (p l : ℕ) (a b : Line) → Sure p l a b → Sure p l b a
+sure-either p l a b (inl h) = inl (parallel-either a b h)
+  where
+    parallel-either : (a b : Line) → Parallel a b → Parallel b a
+    parallel-either (Row r) (Row s) h = h
+    parallel-either (Column c) (Column d) h = h
+sure-either p l a b (inr all) = inr all
+
+module _ (p l : ℕ) (a b : Line) (A B : ℕ → ℕ) where
   -- only the sums of the lines 0 to p-1 count
-  pub solved-sums : (A′ B′ : ℕ → ℕ) (exists : Bool) → ((t : ℕ) → t < p → A t ≡ A′ t) → ((t : ℕ) → t < p → B t ≡ B′ t)
-      → Solved p l a b A B exists x y → Solved p l a b A′ B′ exists x y
-  solved-sums A′ B′ true ha hb s = record { settles = settles-sums p l A B A′ B′ _ ha hb (s .settles); first = s .first; second = s .second }
-  solved-sums A′ B′ false ha hb s = λ D g. s D (settles-sums p l A′ B′ A B D (λ t h. sym (ha t h)) (λ t h. sym (hb t h)) g)
+  some-sums : (A′ B′ : ℕ → ℕ) → ((t : ℕ) → t < p → A t ≡ A′ t) → ((t : ℕ) → t < p → B t ≡ B′ t) → SettledSome p l a b A B → SettledSome p l a b A′ B′
+  some-sums A′ B′ ha hb s = record { by = s .by; settles = settles-sums p l A B A′ B′ (s .by) ha hb (s .settles); padded = s .padded; off = s .off }
 
   -- the lines may be named in either order
-  pub solved-either : (exists : Bool) → Solved p l a b A B exists x y → Solved p l b a A B exists y x
-  solved-either true s = record {
+  some-either : SettledSome p l a b A B → SettledSome p l b a A B
+  some-either s = record { by = s .by; settles = s .settles; padded = s .padded; off = λ i j hi hj d e. s .off i j hi hj e d }
+
+-- both of what is solved
+module _ (p l : ℕ) (a b : Line) (A B : ℕ → ℕ) (x y : ℕ → ℕ) where
+  pub solved-sums : (A′ B′ : ℕ → ℕ) {many : Fillings} → ((t : ℕ) → t < p → A t ≡ A′ t) → ((t : ℕ) → t < p → B t ≡ B′ t)
+      → Solved p l a b A B x y many → Solved p l a b A′ B′ x y many
+  solved-sums A′ B′ ha hb (one h s) = one h (record { settles = settles-sums p l A B A′ B′ _ ha hb (s .settles); first = s .first; second = s .second })
+  solved-sums A′ B′ ha hb (none f) = none (λ s. f (some-sums p l a b A′ B′ A B (λ t h. sym (ha t h)) (λ t h. sym (hb t h)) s))
+  solved-sums A′ B′ ha hb (several d s) = several d (some-sums p l a b A B A′ B′ ha hb s)
+
+  pub solved-either : {many : Fillings} → Solved p l a b A B x y many → Solved p l b a A B y x many
+  solved-either (one h s) = one (sure-either p l a b h) (record {
     settles = settles-ext p l A B (plus (along a x) (along b y)) (plus (along b y) (along a x)) (λ i j hi hj. comm _ _) (s .settles);
     first = s .second;
     second = s .first;
-  }
-  solved-either false s = λ D g z off. s D g z (λ i j hi hj d e. off i j hi hj e d)
+  })
+  solved-either (none f) = none (λ s. f (some-either p l b a A B s))
+  solved-either (several d s) = several (λ h. d (sure-either p l b a h)) (some-either p l a b A B s)
 
 -- rows are columns of the turned tile, whose slope is the inverse m
-pub solved-rows : (p l m r s : ℕ) (A B B′ x y : ℕ → ℕ) (exists : Bool) → l * m % p ≡ 1 → ((t : ℕ) → t < p → B′ t ≡ B (l * t % p))
-    → Solved p m (Column r) (Column s) A B′ exists x y → Solved p l (Row r) (Row s) A B exists x y
-solved-rows p l m r s A B B′ x y true inverse h t = record {
+pub solved-rows : (p l m r s : ℕ) (A B B′ x y : ℕ → ℕ) {many : Fillings} → l * m % p ≡ 1 → ((t : ℕ) → t < p → B′ t ≡ B (l * t % p))
+    → Solved p m (Column r) (Column s) A B′ x y many → Solved p l (Row r) (Row s) A B x y many
+solved-rows p l m r s A B B′ x y inverse h (one sure t) = one (inl tt) (record {
   settles =
       turned-settles p l m inverse A B (plus (along (Row r) x) (along (Row s) y))
       (settles-sums p m A B′ A (λ t. B (l * t % p)) (plus (along (Column r) x) (along (Column s) y)) (λ t q. refl) h (t .settles));
   first = t .first;
   second = t .second;
-}
-solved-rows p l m r s A B B′ x y false inverse h t = λ D g z off.
-    t (turned D) (settles-sums p m A (λ t. B (l * t % p)) A B′ (turned D) (λ t q. refl) (λ t q. sym (h t q)) (settles-turned p l m inverse A B D g))
-    (padded-turned p D z) (λ i j hi hj d e. off j i hj hi d e)
+})
+solved-rows p l m r s A B B′ x y inverse h (none f) = none (λ t. f (record {
+  by = turned (t .by);
+  settles =
+      settles-sums p m A (λ t. B (l * t % p)) A B′ (turned (t .by)) (λ t q. refl) (λ t q. sym (h t q)) (settles-turned p l m inverse A B (t .by) (t .settles));
+  padded = padded-turned p (t .by) (t .padded);
+  off = λ i j hi hj d e. t .off j i hj hi d e;
+}))
+solved-rows p l m r s A B B′ x y inverse h (several d t) = absurd (d (inl tt))
+
+-- a column with a row is not sure where the order of the slope is not p - 1
+pub missing : (p l n t s : ℕ) → Slope p l → Order p l n → n ≢ p - 1 → Sure p l (Column t) (Row s) → ⊥
+missing p l n t s S O d (inr all) = d (order-reaches p l (S .prime) (slope-pos p l S) n O .1 all)
 
 module _ (p l : ℕ) (A B : ℕ → ℕ) (S : Slope p l) where
   -- one column, where the sums agree along it: its change, and no second one
@@ -79,9 +111,10 @@ module _ (p l : ℕ) (A B : ℕ → ℕ) (S : Slope p l) where
   }
 
   -- and where they do not, none
-  pub one-no : (c : ℕ) → c < p - 1 → (Agree p l A B (Column c) → ⊥) → Unsettled p l (Column c) (Column c) A B
-  one-no c hc d = λ D g z off.
-      let m = slope-inverse p l S in d (one-line-agrees p l (m .0) (m .1) A B (Column c) D (omega arith) g (λ i j hi hj q. off i j hi hj q q))
+  pub one-no : (c : ℕ) → c < p - 1 → (Agree p l A B (Column c) → ⊥) → SettledSome p l (Column c) (Column c) A B → ⊥
+  one-no c hc d s =
+      let m = slope-inverse p l S in
+      d (one-line-agrees p l (m .0) (m .1) A B (Column c) (s .by) (omega arith) (s .settles) (λ i j hi hj q. s .off i j hi hj q q))
 
   -- two columns: the chain closes
   pub columns-close : (u v : ℕ) → u < p → v < p → u ≢ v → xorBelow p A ≡ xorBelow p B → Closes p l u (Column v) A B
@@ -100,6 +133,14 @@ module _ (p l : ℕ) (A B : ℕ → ℕ) (S : Slope p l) where
   }
 
   -- and where they do not, there is no change
-  pub crossed-no : (t s : ℕ) → s < p - 1 → t < p - 1 → (A (line p 1 s t) ≡ B (line p l s t) → ⊥) → Unsettled p l (Column t) (Row s) A B
-  crossed-no t s hs ht d = λ D g z off.
-      let m = slope-inverse p l S in d (pair-crossing p l (m .0) (m .1) A B t (omega arith) (Row s) (omega arith) D g off t (omega arith) refl)
+  pub crossed-no : (t s : ℕ) → s < p - 1 → t < p - 1 → (A (line p 1 s t) ≡ B (line p l s t) → ⊥) → SettledSome p l (Column t) (Row s) A B → ⊥
+  crossed-no t s hs ht d c =
+      let m = slope-inverse p l S in d (pair-crossing p l (m .0) (m .1) A B t (omega arith) (Row s) (omega arith) (c .by) (c .settles) (c .off) t (omega arith) refl)
+
+  -- where the powers miss a remainder, there are several where the sums agree over each class, and none where they do not
+  module _ (n t s : ℕ) (O : Order p l n) (hs : s < p - 1) (ht : t < p - 1) where
+    pub classes-some : ClassesAgree p l n A B s t → SettledSome p l (Column t) (Row s) A B
+    classes-some c = let q = classes-settled p l n s t A B S O hs ht c in record { by = q .by; settles = q .settles; padded = q .padded; off = q .off }
+
+    pub classes-none : (ClassesAgree p l n A B s t → ⊥) → SettledSome p l (Column t) (Row s) A B → ⊥
+    classes-none d c = d (settles-classes p l n s t A B (c .by) S O (omega arith) (omega arith) (c .settles) (c .off))

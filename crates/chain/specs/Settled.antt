@@ -1,5 +1,6 @@
 -- A tile once a change in two lines that settles sums is added to it: where the sums are its own, the two lines are filled. Assumes nothing.
-use mathlib.Core.Path.{_≡_, sym, ap, _∙_}
+use mathlib.Core.Path.{_≡_, refl, sym, ap, _∙_}
+use mathlib.Core.Logic.{_↔_}
 use mathlib.Core.List.{List}
 use Prim.Native.Nat.{ℕ, _-_, _<_}
 use native.Mathlib.Omega.{arith}
@@ -7,13 +8,13 @@ use lib.ListN.{length}
 use Rattle.xor.specs.Xor.{_⊕_, assoc, zero-l, zero-r}
 use Rattle.code.specs.Tile.{Cells, tileLength, cell, sum, Fills}
 use Rattle.code.specs.Sums.{Padded, plus, padded-plus}
-use Rattle.code.specs.Place.{difference, difference-padded}
+use Rattle.code.specs.Place.{difference, difference-padded, cell-padded, tileOf, tile-length, tile-cells}
 use Rattle.code.specs.Settle.{Settles, settles-sums}
 use Rattle.code.specs.OneLine.{number, along, along-off, along-padded}
 use Rattle.code.specs.Pair.{ZeroOffBoth}
 use Rattle.code.specs.Filling.{filled-settles, filled-off}
 use Rattle.code.specs.declared.Line.{Line}
-use Rattle.chain.specs.Solve.{SettledBy, Unsettled}
+use Rattle.chain.specs.Solve.{SettledBy, SettledSome}
 use Rattle.cells.specs.Change.{Added, changed-good}
 
 -- y is x with a change in the lines a and b that settles the sums A and B
@@ -49,7 +50,28 @@ settled-fill p l a b A B x y e ha hb c = record {
       sym (c .added i j hi hj ∙ ap (λ (w : ℕ). cell p x i j ⊕ w) (c .off i j (omega arith) (omega arith) d q) ∙ zero-r _);
 }
 
--- where no change settles the sums there is no filling
-pub lines-unfilled : (p l : ℕ) (a b : Line) (x : List ℕ) → Unsettled p l a b (sum p 1 (cell p x)) (sum p l (cell p x)) → (y : List ℕ) → Fills p l a b x y → ⊥
-lines-unfilled p l a b x none y f =
-    none (difference p x y) (filled-settles p l a b x y f) (difference-padded p x y) (filled-off p l a b x y f)
+-- so a tile has a filling exactly if some change in the two lines settles its sums
+pub some-fill : (p l : ℕ) (a b : Line) (x : List ℕ) → length x ≡ tileLength p
+    → SettledSome p l a b (sum p 1 (cell p x)) (sum p l (cell p x)) ↔ ((y : List ℕ) × Fills p l a b x y)
+some-fill p l a b x e = (
+  λ s. (tileOf p (changed s), settled-fill p l a b _ _ x (tileOf p (changed s)) e (λ t q. refl) (λ t q. refl) (settled s)),
+  λ f. record {
+    by = difference p x (f .0);
+    settles = filled-settles p l a b x (f .0) (f .1);
+    padded = difference-padded p x (f .0);
+    off = filled-off p l a b x (f .0) (f .1);
+  },
+)
+  where
+    changed : SettledSome p l a b (sum p 1 (cell p x)) (sum p l (cell p x)) → Cells
+    changed s = plus (cell p x) (s .by)
+
+    settled : (s : SettledSome p l a b (sum p 1 (cell p x)) (sum p l (cell p x))) → LinesSettled p l a b (sum p 1 (cell p x)) (sum p l (cell p x)) x (tileOf p (changed s))
+    settled s = record {
+      by = s .by;
+      settles = s .settles;
+      padded = s .padded;
+      off = s .off;
+      added = λ i j hi hj. tile-cells p (changed s) (padded-plus p (cell p x) (s .by) (cell-padded p x) (s .padded)) i j (omega arith) (omega arith);
+      size = tile-length p (changed s) ∙ sym e;
+    }

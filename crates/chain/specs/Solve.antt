@@ -1,6 +1,5 @@
 -- Changes in two lines that settle sums, as arrays hold them. Assumes nothing.
 use mathlib.Core.Path.{_≡_, sym, ap, ap₂, _∙_}
-use mathlib.Core.Bool.{Bool, true, false}
 use Prim.Native.Nat.{ℕ, _+_, _-_, _*_, _%_, _≤_, _<_}
 use native.Mathlib.Decide.{ℕ-discrete}
 use native.Mathlib.Omega.{arith}
@@ -12,11 +11,14 @@ use Rattle.code.specs.Settle.{Settles, settles-ext}
 use Rattle.code.specs.OneLine.{number, rowAt, columnAt, through, along, shifted, along-ext}
 use Rattle.code.specs.Pair.{ZeroOffBoth, Hops, left, change, left-crossing, first-left}
 use Rattle.code.specs.Existence.{Closing, by-chain}
+use Rattle.code.specs.Fillings.{Sure}
 use Rattle.code.specs.declared.Line.{Line}
 use Rattle.code.specs.declared.Line.the-variants.{Row, Column}
 use Rattle.walk.specs.Fill.{through-once}
 use Rattle.search.specs.Column.{Along, TakenOff}
 use Rattle.chain.specs.Hand.{Onward, weightOf, leads, FromColumn}
+use Rattle.chain.specs.declared.filling.Fillings.{Fillings}
+use Rattle.chain.specs.declared.filling.Fillings.the-variants as fillings
 
 -- x in the line a and y in the line b settle the sums A and B, and are 0 where the lines meet the added zeros
 pub record SettledBy (p l : ℕ) (a b : Line) (A B x y : ℕ → ℕ) : Type 0 where
@@ -24,14 +26,19 @@ pub record SettledBy (p l : ℕ) (a b : Line) (A B x y : ℕ → ℕ) : Type 0 w
   pub first : x (p - 1) ≡ 0
   pub second : y (p - 1) ≡ 0
 
--- no change in the lines a and b settles the sums
-abbrev pub Unsettled : ℕ → ℕ → Line → Line → (ℕ → ℕ) → (ℕ → ℕ) → Type 0
-Unsettled p l a b A B = (D : Cells) → Settles p l A B D → Padded p D → ZeroOffBoth p a b D → ⊥
+-- some change in the lines a and b settles the sums
+pub record SettledSome (p l : ℕ) (a b : Line) (A B : ℕ → ℕ) : Type 0 where
+  pub by : Cells
+  pub settles : Settles p l A B by
+  pub padded : Padded p by
+  pub off : ZeroOffBoth p a b by
 
--- whether there is a change in the lines a and b that settles the sums: then x and y are it
-abbrev pub Solved : ℕ → ℕ → Line → Line → (ℕ → ℕ) → (ℕ → ℕ) → Bool → (ℕ → ℕ) → (ℕ → ℕ) → Type 0
-Solved p l a b A B true x y = SettledBy p l a b A B x y
-Solved p l a b A B false x y = Unsettled p l a b A B
+-- how many changes in the lines a and b settle the sums. Where it is one, x and y are it, and the lines are sure; where they are not, there
+-- is none, or there are several
+pub data Solved (p l : ℕ) (a b : Line) (A B x y : ℕ → ℕ) : Fillings → Type 0 where
+  none : (SettledSome p l a b A B → ⊥) → Solved p l a b A B x y fillings.None
+  one : Sure p l a b → SettledBy p l a b A B x y → Solved p l a b A B x y fillings.One
+  several : (Sure p l a b → ⊥) → SettledSome p l a b A B → Solved p l a b A B x y fillings.Several
 
 -- how many hops there are between a column and the line b
 abbrev pub hopsOf : ℕ → Line → ℕ

@@ -1,6 +1,7 @@
 // The changes that fill one or two flagged lines.
 use crate::pair;
 use crate::pair::Pair;
+use code::Kind;
 use code::Line;
 use search::column;
 use search::column::zeros;
@@ -8,62 +9,78 @@ use walk::index::through;
 use walk::sums::line_sums;
 use walk::turn;
 ghost use mathlib.Core.Path.{_≡_};
-ghost use mathlib.Core.Bool.{false};
 ghost use Prim.Native.Nat.{_-_, _≤_, _<_};
 ghost use lib.ListN.{length};
 ghost use Rattle.xor.specs.Sum.{xorBelow};
 ghost use Rattle.residue.specs.Power.{ReachesAll};
 ghost use Rattle.code.specs.Slope.{Slope};
+ghost use Rattle.code.specs.Kind.{Takes};
 ghost use Rattle.code.specs.Tile.{cell, sum, tileLength};
 ghost use Rattle.code.specs.OneLine as law;
+ghost use Rattle.code.specs.Fillings.{Sure};
 ghost use Rattle.code.specs.declared.Line.the-variants.{Row, Column};
 ghost use Rattle.code.specs.Held.{held};
 ghost use Rattle.chain.specs.Solve.{Solved, Closes};
 
-// Whether there is a filling, and the changes in the two lines that make it.
+// How many fillings there are.
+pub enum Fillings {
+    None,
+    One,
+    Several,
+}
+
+// How many fillings there are and, where it is one, the changes in the two lines that make it.
 pub struct Filling {
-    pub exists: bool,
+    pub many: Fillings,
     pub first: [u8; 257],
     pub second: [u8; 257],
 }
 
 // The filling of two lines of a tile, or of one line named twice.
-pub fn solve(p: usize, l: usize, tile: &[u8], first: Line, second: Line) -> Filling
+pub fn solve(kind: Kind, p: usize, l: usize, tile: &[u8], first: Line, second: Line) -> Filling
     requires { ⌜ Slope p l ⌝ }
-    requires { ⌜ ReachesAll p l ⌝ }
+    requires { ⌜ Takes kind p l ⌝ }
     requires { ⌜ (p ≤ 257) × (length (now tile) ≡ tileLength p) × (law.number first < p - 1) × (law.number second < p - 1) ⌝ }
-    ensures { λ r. ⌜ Solved p l first second (sum p 1 (cell p (now (tile .entry)))) (sum p l (cell p (now (tile .entry)))) (r .exists) (held (r .first)) (held (r .second)) ⌝ }
+    ensures { λ r. ⌜ Solved p l first second (sum p 1 (cell p (now (tile .entry)))) (sum p l (cell p (now (tile .entry)))) (held (r .first)) (held (r .second)) (r .many) ⌝ }
 {
     let a = line_sums(p, 1, tile);
     let b = line_sums(p, l, tile);
-    settle(p, l, first, second, &a, &b)
+    settle(kind, p, l, first, second, &a, &b)
 }
 
 // The changes in the two lines that settle the sums a and b.
-fn settle(p: usize, l: usize, first: Line, second: Line, a: &[u8; 257], b: &[u8; 257]) -> Filling
+fn settle(
+    kind: Kind,
+    p: usize,
+    l: usize,
+    first: Line,
+    second: Line,
+    a: &[u8; 257],
+    b: &[u8; 257],
+) -> Filling
     requires { ⌜ Slope p l ⌝ }
-    requires { ⌜ ReachesAll p l ⌝ }
+    requires { ⌜ Takes kind p l ⌝ }
     requires { ⌜ (p ≤ 257) × (law.number first < p - 1) × (law.number second < p - 1) × (xorBelow p (held (now a)) ≡ xorBelow p (held (now b))) ⌝ }
-    ensures { λ r. ⌜ Solved p l first second (held (now (a .entry))) (held (now (b .entry))) (r .exists) (held (r .first)) (held (r .second)) ⌝ }
+    ensures { λ r. ⌜ Solved p l first second (held (now (a .entry))) (held (now (b .entry))) (held (r .first)) (held (r .second)) (r .many) ⌝ }
 {
     match first {
         Line::Row(r) => match second {
             Line::Row(s) => rows(p, l, r, s, a, b),
-            Line::Column(t) => exchanged(crossed(p, l, t, r, a, b)),
+            Line::Column(t) => exchanged(crossed(kind, p, l, t, r, a, b)),
         },
         Line::Column(t) => match second {
-            Line::Row(s) => crossed(p, l, t, s, a, b),
+            Line::Row(s) => crossed(kind, p, l, t, s, a, b),
             Line::Column(v) => columns(p, l, t, v, a, b),
         },
     }
 }
 
-// No filling.
-fn none() -> Filling
-    ensures { λ r. ⌜ r .exists ≡ false ⌝ }
+// No filling, or several: there is no change to be made.
+fn unfilled(many: Fillings) -> Filling
+    ensures { λ r. ⌜ r .many ≡ many ⌝ }
 {
     Filling {
-        exists: false,
+        many,
         first: zeros(),
         second: zeros(),
     }
@@ -71,12 +88,13 @@ fn none() -> Filling
 
 // The same filling with the lines named in the other order.
 fn exchanged(filling: Filling) -> Filling
-    ensures { λ r. ⌜ (r .exists ≡ filling .exists) × (r .first ≡ filling .second) × (r .second ≡ filling .first) ⌝ }
+    ensures { λ r. ⌜ (r .many ≡ filling .many) × (r .first ≡ filling .second) × (r .second ≡ filling .first) ⌝ }
 {
+    let many = filling.many;
     let first = filling.first;
     let second = filling.second;
     Filling {
-        exists: filling.exists,
+        many,
         first: second,
         second: first,
     }
@@ -86,7 +104,7 @@ fn exchanged(filling: Filling) -> Filling
 fn rows(p: usize, l: usize, r: usize, s: usize, a: &[u8; 257], b: &[u8; 257]) -> Filling
     requires { ⌜ Slope p l ⌝ }
     requires { ⌜ (p ≤ 257) × (r < p - 1) × (s < p - 1) × (xorBelow p (held (now a)) ≡ xorBelow p (held (now b))) ⌝ }
-    ensures { λ w. ⌜ Solved p l (Row r) (Row s) (held (now (a .entry))) (held (now (b .entry))) (w .exists) (held (w .first)) (held (w .second)) ⌝ }
+    ensures { λ w. ⌜ Solved p l (Row r) (Row s) (held (now (a .entry))) (held (now (b .entry))) (held (w .first)) (held (w .second)) (w .many) ⌝ }
 {
     columns(p, turn::inverse(p, l), r, s, a, &turn::turned(p, l, b))
 }
@@ -95,7 +113,7 @@ fn rows(p: usize, l: usize, r: usize, s: usize, a: &[u8; 257], b: &[u8; 257]) ->
 fn columns(p: usize, l: usize, u: usize, v: usize, a: &[u8; 257], b: &[u8; 257]) -> Filling
     requires { ⌜ Slope p l ⌝ }
     requires { ⌜ (p ≤ 257) × (u < p - 1) × (v < p - 1) × (xorBelow p (held (now a)) ≡ xorBelow p (held (now b))) ⌝ }
-    ensures { λ r. ⌜ Solved p l (Column u) (Column v) (held (now (a .entry))) (held (now (b .entry))) (r .exists) (held (r .first)) (held (r .second)) ⌝ }
+    ensures { λ r. ⌜ Solved p l (Column u) (Column v) (held (now (a .entry))) (held (now (b .entry))) (held (r .first)) (held (r .second)) (r .many) ⌝ }
 {
     if u == v {
         one_column(p, l, u, a, b)
@@ -117,25 +135,56 @@ fn columns(p: usize, l: usize, u: usize, v: usize, a: &[u8; 257], b: &[u8; 257])
 fn one_column(p: usize, l: usize, c: usize, a: &[u8; 257], b: &[u8; 257]) -> Filling
     requires { ⌜ Slope p l ⌝ }
     requires { ⌜ (p ≤ 257) × (c < p - 1) ⌝ }
-    ensures { λ r. ⌜ Solved p l (Column c) (Column c) (held (now (a .entry))) (held (now (b .entry))) (r .exists) (held (r .first)) (held (r .second)) ⌝ }
+    ensures { λ r. ⌜ Solved p l (Column c) (Column c) (held (now (a .entry))) (held (now (b .entry))) (held (r .first)) (held (r .second)) (r .many) ⌝ }
 {
     if column::explaining(p, l, c, c + 1, a, b) == c {
         Filling {
-            exists: true,
+            many: Fillings::One,
             first: column::shifted(p, Line::Column(c), a),
             second: zeros(),
         }
     } else {
-        none()
+        unfilled(Fillings::None)
     }
 }
 
-// A column with a row: they have a filling where the two sums through the crossing agree.
-fn crossed(p: usize, l: usize, t: usize, s: usize, a: &[u8; 257], b: &[u8; 257]) -> Filling
+// A column with a row. The powers of a new tile's slope reach all, and so may those of an old one's; where they do not, there are several
+// fillings or none.
+fn crossed(
+    kind: Kind,
+    p: usize,
+    l: usize,
+    t: usize,
+    s: usize,
+    a: &[u8; 257],
+    b: &[u8; 257],
+) -> Filling
+    requires { ⌜ Slope p l ⌝ }
+    requires { ⌜ Takes kind p l ⌝ }
+    requires { ⌜ (p ≤ 257) × (t < p - 1) × (s < p - 1) × (xorBelow p (held (now a)) ≡ xorBelow p (held (now b))) ⌝ }
+    ensures { λ r. ⌜ Solved p l (Column t) (Row s) (held (now (a .entry))) (held (now (b .entry))) (held (r .first)) (held (r .second)) (r .many) ⌝ }
+{
+    match kind {
+        Kind::New => closing(p, l, t, s, a, b),
+        Kind::Old => {
+            let n = classes::order(p, l);
+            if n == p - 1 {
+                closing(p, l, t, s, a, b)
+            } else if classes::agree(p, l, n, s, t, a, b) {
+                unfilled(Fillings::Several)
+            } else {
+                unfilled(Fillings::None)
+            }
+        }
+    }
+}
+
+// A column with a row at a slope whose powers reach all: they have a filling where the two sums through the crossing agree.
+fn closing(p: usize, l: usize, t: usize, s: usize, a: &[u8; 257], b: &[u8; 257]) -> Filling
     requires { ⌜ Slope p l ⌝ }
     requires { ⌜ ReachesAll p l ⌝ }
     requires { ⌜ (p ≤ 257) × (t < p - 1) × (s < p - 1) × (xorBelow p (held (now a)) ≡ xorBelow p (held (now b))) ⌝ }
-    ensures { λ r. ⌜ Solved p l (Column t) (Row s) (held (now (a .entry))) (held (now (b .entry))) (r .exists) (held (r .first)) (held (r .second)) ⌝ }
+    ensures { λ r. ⌜ Solved p l (Column t) (Row s) (held (now (a .entry))) (held (now (b .entry))) (held (r .first)) (held (r .second)) (r .many) ⌝ }
 {
     let row = Line::Row(s);
     let first = through(p, 1, row, t);
@@ -152,7 +201,7 @@ fn crossed(p: usize, l: usize, t: usize, s: usize, a: &[u8; 257], b: &[u8; 257])
             b,
         )
     } else {
-        none()
+        unfilled(Fillings::None)
     }
 }
 
@@ -160,14 +209,15 @@ fn crossed(p: usize, l: usize, t: usize, s: usize, a: &[u8; 257], b: &[u8; 257])
 fn paired(lost: Pair, a: &[u8; 257], b: &[u8; 257]) -> Filling
     requires { ⌜ Slope (lost .p) (lost .l) ⌝ }
     requires { ⌜ (lost .p ≤ 257) × (lost .column < lost .p) × (law.number (lost .line) < lost .p) ⌝ }
+    requires { ⌜ Sure (lost .p) (lost .l) (Column (lost .column)) (lost .line) ⌝ }
     requires { ⌜ Closes (lost .p) (lost .l) (lost .column) (lost .line) (held (now a)) (held (now b)) ⌝ }
-    ensures { λ r. ⌜ Solved (lost .p) (lost .l) (Column (lost .column)) (lost .line) (held (now (a .entry))) (held (now (b .entry))) (r .exists) (held (r .first)) (held (r .second)) ⌝ }
+    ensures { λ r. ⌜ Solved (lost .p) (lost .l) (Column (lost .column)) (lost .line) (held (now (a .entry))) (held (now (b .entry))) (held (r .first)) (held (r .second)) (r .many) ⌝ }
 {
     let changes = pair::solve(lost, a, b);
     let first = changes.column;
     let second = changes.line;
     Filling {
-        exists: true,
+        many: Fillings::One,
         first: first,
         second: second,
     }

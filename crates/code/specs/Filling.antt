@@ -33,7 +33,7 @@ filled-once p l a b x y z S h f g =
 
 module _ (p l : ℕ) (a b : Line) (x : List ℕ) where
   -- a change within the lines that settles the tile's sums makes a filling
-  settled-filled : Settled p l a b (sum p 1 (cell p x)) (sum p l (cell p x)) → Filled p l a b x
+  pub settled-filled : Settled p l a b (sum p 1 (cell p x)) (sum p l (cell p x)) → Filled p l a b x
   settled-filled t = (
     tileOf p U,
     record {

@@ -1,6 +1,7 @@
--- The tile code: what a reader must believe (`Says`, `Tile`), and the paper's theorems, proved from that.
+-- The tile code: what a reader must believe (`Says`, `Tile`, `Kind`, `Count`), and the paper's theorems, proved from that.
 pub mod Says
 pub mod Slope
+pub mod Kind
 pub mod Tabulate
 pub mod Held
 pub mod Tile
@@ -18,5 +19,9 @@ pub mod Columns
 pub mod Crossed
 pub mod Distance
 pub mod Existence
+pub mod Classes
 pub mod Filling
+pub mod Count
+pub mod Doubtful
+pub mod Fillings
 pub mod Writing

@@ -36,23 +36,23 @@ tells {Said} {answerOf} f t =
 pub house-tells : {p w : ℕ} (t : HouseWorded p w) → Tells w (sizeAnswer (t .said))
 house-tells t = tells (λ said h. house-fits h) t
 
-pub takes-tells : {p l w : ℕ} (t : TakesWorded p l w) → Tells w (sizeAnswer (t .said))
-takes-tells t = tells (λ said h. takes-fits h) t
+pub takes-tells : (kind : ℕ) {p l w : ℕ} (t : TakesWorded kind p l w) → Tells w (sizeAnswer (t .said))
+takes-tells kind t = tells (λ said h. takes-fits h) t
 
-pub write-tells : {p l w : ℕ} {text x y : List ℕ} (t : WriteWorded p l text x w y) → Tells w (tileAnswer (t .said))
-write-tells t = tells (λ said h. write-fits h) t
+pub write-tells : (kind : ℕ) {p l w : ℕ} {text x y : List ℕ} (t : WriteWorded kind p l text x w y) → Tells w (tileAnswer (t .said))
+write-tells kind t = tells (λ said h. write-fits h) t
 
-pub read-tells : {p l w : ℕ} {x text y : List ℕ} (t : ReadWorded p l x text w y) → Tells w (tileAnswer (t .said))
-read-tells t = tells (λ said h. read-fits h) t
+pub read-tells : (kind : ℕ) {p l w : ℕ} {x text y : List ℕ} (t : ReadWorded kind p l x text w y) → Tells w (tileAnswer (t .said))
+read-tells kind t = tells (λ said h. read-fits h) t
 
-pub repair-tells : {p l w : ℕ} {x y : List ℕ} (t : RepairWorded p l x w y) → Tells w (tileAnswer (t .said))
-repair-tells t = tells (λ said h. repair-fits h) t
+pub repair-tells : (kind : ℕ) {p l w : ℕ} {x y : List ℕ} (t : RepairWorded kind p l x w y) → Tells w (tileAnswer (t .said))
+repair-tells kind t = tells (λ said h. repair-fits h) t
 
-pub fill-tells : (first second : ℕ) {p l w : ℕ} {x y : List ℕ} (t : FillWorded p l x first second w y) → Tells w (tileAnswer (t .said))
-fill-tells first second t = tells (λ said h. fill-fits h) t
+pub fill-tells : (kind first second : ℕ) {p l w : ℕ} {x y : List ℕ} (t : FillWorded kind p l x first second w y) → Tells w (tileAnswer (t .said))
+fill-tells kind first second t = tells (λ said h. fill-fits h) t
 
-pub correct-tells : {p l w n : ℕ} {x records y : List ℕ} (t : CorrectWorded p l x records w y n) → Tells w (sheetAnswer (t .said))
-correct-tells t = tells (λ said h. correct-fits (h .0)) t
+pub correct-tells : (kind : ℕ) {p l w n : ℕ} {x records y : List ℕ} (t : CorrectWorded kind p l x records w y n) → Tells w (sheetAnswer (t .said))
+correct-tells kind t = tells (λ said h. correct-fits (h .0)) t
 
-pub next-tells : {at w number p l from : ℕ} {reel : List ℕ} (t : NextWorded reel at w number p l from) → Tells w (reelAnswer (t .said))
+pub next-tells : {at w kind number p l from : ℕ} {reel : List ℕ} (t : NextWorded reel at w kind number p l from) → Tells w (reelAnswer (t .said))
 next-tells t = tells (λ said h. next-fits (h .0)) t

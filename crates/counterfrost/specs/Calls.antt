@@ -7,8 +7,8 @@ use Rattle.size.specs.Answer.{HouseTold, Judged}
 use Rattle.promise.specs.Calls.{WriteTold, ReadTold, RepairTold, FillTold}
 use Rattle.sheet.specs.Calls.{CorrectTold}
 use Rattle.reel.specs.Calls.{NextTold}
-use Rattle.word.specs.Word.{Answer, word, sizeAnswer, tileAnswer, lineOf}
-use Rattle.counterfrost.specs.Numbers.{sheetAnswer, countOrOffset, reelAnswer, tileNumber, tileSize, tileSlope, offset}
+use Rattle.word.specs.Word.{Answer, word, sizeAnswer, tileAnswer, lineOf, tileKind}
+use Rattle.counterfrost.specs.Numbers.{sheetAnswer, countOrOffset, reelAnswer, tileKindNumber, tileNumber, tileSize, tileSlope, offset}
 
 -- SPEC 11.1: the word w is the answer to something that is rightly said
 pub record Worded {Said : Type 0} (answerOf : Said → Answer) (Right : Said → Type 0) (w : ℕ) : Type 0 where
@@ -20,28 +20,28 @@ pub record Worded {Said : Type 0} (answerOf : Said → Answer) (Right : Said →
 abbrev pub HouseWorded : ℕ → ℕ → Type 0
 HouseWorded p = Worded sizeAnswer (HouseTold p)
 
--- SPEC 11.1 and 2.4: how p and l are judged
-abbrev pub TakesWorded : ℕ → ℕ → ℕ → Type 0
-TakesWorded p l = Worded sizeAnswer (Judged p l)
+-- SPEC 11.1, 11.5 and 2.4: how a kind, p and l are judged
+abbrev pub TakesWorded : ℕ → ℕ → ℕ → ℕ → Type 0
+TakesWorded kind p l = Worded sizeAnswer (Judged (tileKind kind) p l)
 
--- SPEC 11.1 and 5.1 to 5.4: a tile call that leaves the bytes x. The lines to fill go in as numbers, by 11.3
-abbrev pub WriteWorded : ℕ → ℕ → List ℕ → List ℕ → ℕ → List ℕ → Type 0
-WriteWorded p l text tile w x = Worded tileAnswer (λ s. WriteTold p l text tile s x) w
+-- SPEC 11.1 and 5.1 to 5.4: a tile call that leaves the bytes x. The kind goes in as a number, by 11.5, and so do the lines to fill, by 11.3
+abbrev pub WriteWorded : ℕ → ℕ → ℕ → List ℕ → List ℕ → ℕ → List ℕ → Type 0
+WriteWorded kind p l text tile w x = Worded tileAnswer (λ s. WriteTold (tileKind kind) p l text tile s x) w
 
-abbrev pub ReadWorded : ℕ → ℕ → List ℕ → List ℕ → ℕ → List ℕ → Type 0
-ReadWorded p l tile text w x = Worded tileAnswer (λ s. ReadTold p l tile text s x) w
+abbrev pub ReadWorded : ℕ → ℕ → ℕ → List ℕ → List ℕ → ℕ → List ℕ → Type 0
+ReadWorded kind p l tile text w x = Worded tileAnswer (λ s. ReadTold (tileKind kind) p l tile text s x) w
 
-abbrev pub RepairWorded : ℕ → ℕ → List ℕ → ℕ → List ℕ → Type 0
-RepairWorded p l tile w x = Worded tileAnswer (λ s. RepairTold p l tile s x) w
+abbrev pub RepairWorded : ℕ → ℕ → ℕ → List ℕ → ℕ → List ℕ → Type 0
+RepairWorded kind p l tile w x = Worded tileAnswer (λ s. RepairTold (tileKind kind) p l tile s x) w
 
-abbrev pub FillWorded : ℕ → ℕ → List ℕ → ℕ → ℕ → ℕ → List ℕ → Type 0
-FillWorded p l tile first second w x = Worded tileAnswer (λ s. FillTold p l tile (lineOf first) (lineOf second) s x) w
+abbrev pub FillWorded : ℕ → ℕ → ℕ → List ℕ → ℕ → ℕ → ℕ → List ℕ → Type 0
+FillWorded kind p l tile first second w x = Worded tileAnswer (λ s. FillTold (tileKind kind) p l tile (lineOf first) (lineOf second) s x) w
 
 -- SPEC 11.1, 11.2, 6.3 and 6.4: a correction that leaves the tile x, and the number n
-abbrev pub CorrectWorded : ℕ → ℕ → List ℕ → List ℕ → ℕ → List ℕ → ℕ → Type 0
-CorrectWorded p l tile sheet w x n = Worded sheetAnswer (λ s. CorrectTold p l tile sheet s x × (n ≡ countOrOffset s)) w
+abbrev pub CorrectWorded : ℕ → ℕ → ℕ → List ℕ → List ℕ → ℕ → List ℕ → ℕ → Type 0
+CorrectWorded kind p l tile sheet w x n = Worded sheetAnswer (λ s. CorrectTold (tileKind kind) p l tile sheet s x × (n ≡ countOrOffset s)) w
 
--- SPEC 11.1, 11.2 and 7.2: what stands at a place, in four numbers
-abbrev pub NextWorded : List ℕ → ℕ → ℕ → ℕ → ℕ → ℕ → ℕ → Type 0
-NextWorded reel at w number p l from =
-    Worded reelAnswer (λ s. NextTold reel at s × (number ≡ tileNumber s) × (p ≡ tileSize s) × (l ≡ tileSlope s) × (from ≡ offset s)) w
+-- SPEC 11.1, 11.2 and 7.2: what stands at a place, in five numbers
+abbrev pub NextWorded : List ℕ → ℕ → ℕ → ℕ → ℕ → ℕ → ℕ → ℕ → Type 0
+NextWorded reel at w kind number p l from =
+    Worded reelAnswer (λ s. NextTold reel at s × (kind ≡ tileKindNumber s) × (number ≡ tileNumber s) × (p ≡ tileSize s) × (l ≡ tileSlope s) × (from ≡ offset s)) w

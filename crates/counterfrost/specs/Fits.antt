@@ -2,10 +2,11 @@
 use mathlib.Core.List.{List}
 use Prim.Native.Nat.{ℕ, _≤_}
 use native.Mathlib.Omega.{arith}
+use Rattle.code.specs.declared.Kind.{Kind}
 use Rattle.code.specs.declared.Line.{Line}
 use Rattle.size.specs.Answer as size
 use Rattle.promise.specs.Answer as tile
-use Rattle.promise.specs.Calls.{Admitted, judged, no-length, WriteTold, ReadTold, Named, by-cell, by-column, by-row, RepairTold, FillTold}
+use Rattle.promise.specs.Calls.{Admitted, judged, no-length, WriteTold, ReadTold, Looked, Named, by-cell, by-column, by-row, RepairTold, Done, FillTold}
 use Rattle.promise.specs.Admit.{admitted-well}
 use Rattle.promise.specs.Name.{named-in}
 use Rattle.sheet.specs.Answer as sheet
@@ -21,20 +22,20 @@ pub house-fits : {p : ℕ} {said : size.Said} → size.HouseTold p said → Fits
 house-fits (size.given s h) = (omega (arith, s .high, h .allowed .high), omega arith)
 house-fits (size.no-size f) = (omega arith, omega arith)
 
-pub takes-fits : {p l : ℕ} {said : size.Said} → size.Judged p l said → Fits (sizeAnswer said)
+pub takes-fits : {k : Kind} {p l : ℕ} {said : size.Said} → size.Judged k p l said → Fits (sizeAnswer said)
 takes-fits (size.taken s a) = (omega arith, omega arith)
 takes-fits (size.no-size f) = (omega arith, omega arith)
 takes-fits (size.no-slope s f) = (omega arith, omega arith)
 
-admitted-fits : {p l n : ℕ} {Lengths : Type 0} → Admitted p l Lengths (size.refused n) → Fits (refusal n)
+admitted-fits : {k : Kind} {p l n : ℕ} {Lengths : Type 0} → Admitted k p l Lengths (size.refused n) → Fits (refusal n)
 admitted-fits (judged j) = takes-fits j
 admitted-fits (no-length j f) = (omega arith, omega arith)
 
-pub write-fits : {p l : ℕ} {text x y : List ℕ} {said : tile.Said} → WriteTold p l text x said y → Fits (tileAnswer said)
+pub write-fits : {k : Kind} {p l : ℕ} {text x y : List ℕ} {said : tile.Said} → WriteTold k p l text x said y → Fits (tileAnswer said)
 write-fits (WriteTold.refuses h) = admitted-fits h
 write-fits (WriteTold.writes h w) = (omega arith, omega arith)
 
-pub read-fits : {p l : ℕ} {x text y : List ℕ} {said : tile.Said} → ReadTold p l x text said y → Fits (tileAnswer said)
+pub read-fits : {k : Kind} {p l : ℕ} {x text y : List ℕ} {said : tile.Said} → ReadTold k p l x text said y → Fits (tileAnswer said)
 read-fits (ReadTold.refuses h) = admitted-fits h
 read-fits (ReadTold.not-good h f) = (omega arith, omega arith)
 read-fits (ReadTold.reads h g) = (omega arith, omega arith)
@@ -45,24 +46,32 @@ named-fits high (by-cell o) = (omega (arith, named-in (by-cell o)), omega (arith
 named-fits high (by-column m) = (omega (arith, named-in (by-column m)), omega arith)
 named-fits high (by-row m) = (omega (arith, named-in (by-row m)), omega arith)
 
-pub repair-fits : {p l : ℕ} {x y : List ℕ} {said : tile.Said} → RepairTold p l x said y → Fits (tileAnswer said)
+-- so what comes of looking at good tiles fits, if their names do; that of a filling is done
+looked-fits : {F : List ℕ → Type 0} {Name : List ℕ → tile.Said → Type 0} {x y : List ℕ} {said : tile.Said}
+    → ((z : List ℕ) (s : tile.Said) → Name z s → Fits (tileAnswer s)) → Looked F Name x said y → Fits (tileAnswer said)
+looked-fits f (Looked.one {said} {new} o n) = f new said n
+looked-fits f (Looked.none d) = (omega arith, omega arith)
+looked-fits f (Looked.several d) = (omega arith, omega arith)
+
+done-fits : (y : List ℕ) (said : tile.Said) → Done y said → Fits (tileAnswer said)
+done-fits y said e = rw e (omega arith, omega arith)
+
+pub repair-fits : {k : Kind} {p l : ℕ} {x y : List ℕ} {said : tile.Said} → RepairTold k p l x said y → Fits (tileAnswer said)
 repair-fits (RepairTold.refuses h) = admitted-fits h
 repair-fits (RepairTold.is-good h g) = (omega arith, omega arith)
-repair-fits (RepairTold.mends h e n) = named-fits (admitted-well h .0 .high) n
-repair-fits (RepairTold.by-none h f) = (omega arith, omega arith)
+repair-fits (RepairTold.is-hurt h bad q) = looked-fits (λ z s. named-fits (admitted-well h .0 .high)) q
 
-pub fill-fits : {p l : ℕ} {x y : List ℕ} {a b : Line} {said : tile.Said} → FillTold p l x a b said y → Fits (tileAnswer said)
+pub fill-fits : {k : Kind} {p l : ℕ} {x y : List ℕ} {a b : Line} {said : tile.Said} → FillTold k p l x a b said y → Fits (tileAnswer said)
 fill-fits (FillTold.refuses h) = admitted-fits h
 fill-fits (FillTold.no-line h f) = (omega arith, omega arith)
-fill-fits (FillTold.none h a b f) = (omega arith, omega arith)
-fill-fits (FillTold.fills h a b f) = (omega arith, omega arith)
+fill-fits (FillTold.has-lines h a b q) = looked-fits done-fits q
 
 sheet-fits : {p n at : ℕ} {records : List ℕ} → sheet-calls.Judged p records (sheet.refused n at) → Fits (refusal n)
 sheet-fits (sheet-calls.cut f) = (omega arith, omega arith)
 sheet-fits (sheet-calls.no-mark w h s f) = (omega arith, omega arith)
 sheet-fits (sheet-calls.no-place w h s m f) = (omega arith, omega arith)
 
-pub correct-fits : {p l : ℕ} {x records y : List ℕ} {said : sheet.Said} → sheet-calls.CorrectTold p l x records said y → Fits (sheetAnswer said)
+pub correct-fits : {k : Kind} {p l : ℕ} {x records y : List ℕ} {said : sheet.Said} → sheet-calls.CorrectTold k p l x records said y → Fits (sheetAnswer said)
 correct-fits (sheet-calls.refuses h) = admitted-fits h
 correct-fits (sheet-calls.faulty h j) = sheet-fits j
 correct-fits (sheet-calls.corrects h j c) = (omega arith, omega arith)

@@ -6,8 +6,8 @@ use Rattle.size.specs.Once.{house-told-once, judged-told-once}
 use Rattle.promise.specs.Once.{write-told-once, read-told-once, repair-told-once, fill-told-once}
 use Rattle.sheet.specs.Once.{correct-told-once}
 use Rattle.reel.specs.Once.{next-told-once}
-use Rattle.word.specs.Word.{Answer, word, lineOf}
-use Rattle.counterfrost.specs.Numbers.{countOrOffset, tileNumber, tileSize, tileSlope, offset}
+use Rattle.word.specs.Word.{Answer, word, lineOf, tileKind}
+use Rattle.counterfrost.specs.Numbers.{countOrOffset, tileKindNumber, tileNumber, tileSize, tileSlope, offset}
 use Rattle.counterfrost.specs.Calls.{Worded, HouseWorded, TakesWorded, WriteWorded, ReadWorded, RepairWorded, FillWorded, CorrectWorded, NextWorded}
 
 -- where one thing is said, it has one word
@@ -18,52 +18,54 @@ one-word {Said} {answerOf} t u e = t .is ∙ ap (λ (s : Said). word (answerOf s
 pub house-word-once : (p v w : ℕ) → HouseWorded p v → HouseWorded p w → v ≡ w
 house-word-once p v w t u = one-word t u (house-told-once p (t .said) (u .said) (t .right) (u .right))
 
-pub takes-word-once : (p l v w : ℕ) → TakesWorded p l v → TakesWorded p l w → v ≡ w
-takes-word-once p l v w t u = one-word t u (judged-told-once p l (t .said) (u .said) (t .right) (u .right))
+pub takes-word-once : (kind p l v w : ℕ) → TakesWorded kind p l v → TakesWorded kind p l w → v ≡ w
+takes-word-once kind p l v w t u = one-word t u (judged-told-once (tileKind kind) p l (t .said) (u .said) (t .right) (u .right))
 
-pub write-word-once : (p l : ℕ) (text tile : List ℕ) (v w : ℕ) (x y : List ℕ) → WriteWorded p l text tile v x → WriteWorded p l text tile w y
+pub write-word-once : (kind p l : ℕ) (text tile : List ℕ) (v w : ℕ) (x y : List ℕ) → WriteWorded kind p l text tile v x → WriteWorded kind p l text tile w y
     → (v ≡ w) × (x ≡ y)
-write-word-once p l text tile v w x y t u =
-    let e = write-told-once p l text tile (t .said) (u .said) x y (t .right) (u .right) in (one-word t u (e .0), e .1)
+write-word-once kind p l text tile v w x y t u =
+    let e = write-told-once (tileKind kind) p l text tile (t .said) (u .said) x y (t .right) (u .right) in (one-word t u (e .0), e .1)
 
-pub read-word-once : (p l : ℕ) (tile text : List ℕ) (v w : ℕ) (x y : List ℕ) → ReadWorded p l tile text v x → ReadWorded p l tile text w y
+pub read-word-once : (kind p l : ℕ) (tile text : List ℕ) (v w : ℕ) (x y : List ℕ) → ReadWorded kind p l tile text v x → ReadWorded kind p l tile text w y
     → (v ≡ w) × (x ≡ y)
-read-word-once p l tile text v w x y t u =
-    let e = read-told-once p l tile text (t .said) (u .said) x y (t .right) (u .right) in (one-word t u (e .0), e .1)
+read-word-once kind p l tile text v w x y t u =
+    let e = read-told-once (tileKind kind) p l tile text (t .said) (u .said) x y (t .right) (u .right) in (one-word t u (e .0), e .1)
 
-pub repair-word-once : (p l : ℕ) (tile : List ℕ) (v w : ℕ) (x y : List ℕ) → RepairWorded p l tile v x → RepairWorded p l tile w y
+pub repair-word-once : (kind p l : ℕ) (tile : List ℕ) (v w : ℕ) (x y : List ℕ) → RepairWorded kind p l tile v x → RepairWorded kind p l tile w y
     → (v ≡ w) × (x ≡ y)
-repair-word-once p l tile v w x y t u =
-    let e = repair-told-once p l tile (t .said) (u .said) x y (t .right) (u .right) in (one-word t u (e .0), e .1)
+repair-word-once kind p l tile v w x y t u =
+    let e = repair-told-once (tileKind kind) p l tile (t .said) (u .said) x y (t .right) (u .right) in (one-word t u (e .0), e .1)
 
-pub fill-word-once : (p l : ℕ) (tile : List ℕ) (first second v w : ℕ) (x y : List ℕ) → FillWorded p l tile first second v x
-    → FillWorded p l tile first second w y → (v ≡ w) × (x ≡ y)
-fill-word-once p l tile first second v w x y t u =
-    let e = fill-told-once p l tile (lineOf first) (lineOf second) (t .said) (u .said) x y (t .right) (u .right) in (one-word t u (e .0), e .1)
+pub fill-word-once : (kind p l : ℕ) (tile : List ℕ) (first second v w : ℕ) (x y : List ℕ) → FillWorded kind p l tile first second v x
+    → FillWorded kind p l tile first second w y → (v ≡ w) × (x ≡ y)
+fill-word-once kind p l tile first second v w x y t u =
+    let e = fill-told-once (tileKind kind) p l tile (lineOf first) (lineOf second) (t .said) (u .said) x y (t .right) (u .right) in (one-word t u (e .0), e .1)
 
 -- a correction leaves one number too
-pub correct-word-once : (p l : ℕ) (tile sheet : List ℕ) (v w : ℕ) (x y : List ℕ) (m n : ℕ) → CorrectWorded p l tile sheet v x m
-    → CorrectWorded p l tile sheet w y n → (v ≡ w) × (x ≡ y) × (m ≡ n)
-correct-word-once p l tile sheet v w x y m n t u =
-    let e = correct-told-once p l tile sheet (t .said) (u .said) x y (t .right .0) (u .right .0) in
+pub correct-word-once : (kind p l : ℕ) (tile sheet : List ℕ) (v w : ℕ) (x y : List ℕ) (m n : ℕ) → CorrectWorded kind p l tile sheet v x m
+    → CorrectWorded kind p l tile sheet w y n → (v ≡ w) × (x ≡ y) × (m ≡ n)
+correct-word-once kind p l tile sheet v w x y m n t u =
+    let e = correct-told-once (tileKind kind) p l tile sheet (t .said) (u .said) x y (t .right .0) (u .right .0) in
     (one-word t u (e .0), e .1, t .right .1 ∙ ap countOrOffset (e .0) ∙ sym (u .right .1))
 
--- and a place has four numbers
-pub record SameNumbers (number number′ p p′ l l′ from from′ : ℕ) : Type 0 where
+-- and a place has five numbers
+pub record SameNumbers (kind kind′ number number′ p p′ l l′ from from′ : ℕ) : Type 0 where
+  pub kind-same : kind ≡ kind′
   pub number-same : number ≡ number′
   pub size-same : p ≡ p′
   pub slope-same : l ≡ l′
   pub offset-same : from ≡ from′
 
-pub next-word-once : (reel : List ℕ) (at v w number number′ p p′ l l′ from from′ : ℕ) → NextWorded reel at v number p l from
-    → NextWorded reel at w number′ p′ l′ from′ → (v ≡ w) × SameNumbers number number′ p p′ l l′ from from′
-next-word-once reel at v w number number′ p p′ l l′ from from′ t u =
+pub next-word-once : (reel : List ℕ) (at v w kind kind′ number number′ p p′ l l′ from from′ : ℕ) → NextWorded reel at v kind number p l from
+    → NextWorded reel at w kind′ number′ p′ l′ from′ → (v ≡ w) × SameNumbers kind kind′ number number′ p p′ l l′ from from′
+next-word-once reel at v w kind kind′ number number′ p p′ l l′ from from′ t u =
     let e = next-told-once reel at (t .said) (u .said) (t .right .0) (u .right .0) in (
       one-word t u e,
       record {
-        number-same = t .right .1 ∙ ap tileNumber e ∙ sym (u .right .1);
-        size-same = t .right .2 ∙ ap tileSize e ∙ sym (u .right .2);
-        slope-same = t .right .3 ∙ ap tileSlope e ∙ sym (u .right .3);
-        offset-same = t .right .4 ∙ ap offset e ∙ sym (u .right .4);
+        kind-same = t .right .1 ∙ ap tileKindNumber e ∙ sym (u .right .1);
+        number-same = t .right .2 ∙ ap tileNumber e ∙ sym (u .right .2);
+        size-same = t .right .3 ∙ ap tileSize e ∙ sym (u .right .3);
+        slope-same = t .right .4 ∙ ap tileSlope e ∙ sym (u .right .4);
+        offset-same = t .right .5 ∙ ap offset e ∙ sym (u .right .5);
       },
     )

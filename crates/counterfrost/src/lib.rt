@@ -20,58 +20,68 @@ pub extern "C" fn cf_house_slope(p: usize) -> u64
     of_house(size::house_slope(p))
 }
 
-// Is p a size that allows the slope l? If not, why not.
+// Is p a size at which the kind takes the slope l? If not, why not.
 #[no_mangle]
-pub extern "C" fn cf_takes(p: usize, l: usize) -> u64
-    ensures { λ r. ⌜ TakesWorded p l r ⌝ }
+pub extern "C" fn cf_takes(kind: usize, p: usize, l: usize) -> u64
+    ensures { λ r. ⌜ TakesWorded kind p l r ⌝ }
 {
-    word::of_judgement(size::judge(p, l))
+    word::of_judgement(size::judge(word::kind(kind), p, l))
 }
 
 // Writes the good tile that has the text.
 #[no_mangle]
-pub extern "C" fn cf_write(p: usize, l: usize, text: &[u8], tile: &mut [u8]) -> u64
-    ensures { λ r. ⌜ WriteWorded p l (now (text .entry)) (now (tile .entry)) r (now (tile .exit)) ⌝ }
+pub extern "C" fn cf_write(kind: usize, p: usize, l: usize, text: &[u8], tile: &mut [u8]) -> u64
+    ensures { λ r. ⌜ WriteWorded kind p l (now (text .entry)) (now (tile .entry)) r (now (tile .exit)) ⌝ }
 {
-    word::of_outcome(tile::write(p, l, text, tile))
+    word::of_outcome(tile::write(word::kind(kind), p, l, text, tile))
 }
 
 // Reads the text out of a good tile.
 #[no_mangle]
-pub extern "C" fn cf_read(p: usize, l: usize, tile: &[u8], text: &mut [u8]) -> u64
-    ensures { λ r. ⌜ ReadWorded p l (now (tile .entry)) (now (text .entry)) r (now (text .exit)) ⌝ }
+pub extern "C" fn cf_read(kind: usize, p: usize, l: usize, tile: &[u8], text: &mut [u8]) -> u64
+    ensures { λ r. ⌜ ReadWorded kind p l (now (tile .entry)) (now (text .entry)) r (now (text .exit)) ⌝ }
 {
-    word::of_outcome(tile::read(p, l, tile, text))
+    word::of_outcome(tile::read(word::kind(kind), p, l, tile, text))
 }
 
 // Repairs one hurt column, or one hurt row, and names what was hurt.
 #[no_mangle]
-pub extern "C" fn cf_repair(p: usize, l: usize, tile: &mut [u8]) -> u64
-    ensures { λ r. ⌜ RepairWorded p l (now (tile .entry)) r (now (tile .exit)) ⌝ }
+pub extern "C" fn cf_repair(kind: usize, p: usize, l: usize, tile: &mut [u8]) -> u64
+    ensures { λ r. ⌜ RepairWorded kind p l (now (tile .entry)) r (now (tile .exit)) ⌝ }
 {
-    of_repair(tile::repair(p, l, tile))
+    of_repair(tile::repair(word::kind(kind), p, l, tile))
 }
 
 // Fills one or two flagged lines, each named by a number.
 #[no_mangle]
-pub extern "C" fn cf_fill(p: usize, l: usize, tile: &mut [u8], first: usize, second: usize) -> u64
-    ensures { λ r. ⌜ FillWorded p l (now (tile .entry)) first second r (now (tile .exit)) ⌝ }
+pub extern "C" fn cf_fill(
+    kind: usize,
+    p: usize,
+    l: usize,
+    tile: &mut [u8],
+    first: usize,
+    second: usize,
+) -> u64
+    ensures { λ r. ⌜ FillWorded kind p l (now (tile .entry)) first second r (now (tile .exit)) ⌝ }
 {
-    word::of_outcome(tile::fill(p, l, tile, word::line(first), word::line(second)))
+    let first = word::line(first);
+    let second = word::line(second);
+    word::of_outcome(tile::fill(word::kind(kind), p, l, tile, first, second))
 }
 
 // Corrects a tile by a sheet.
 #[no_mangle]
 pub extern "C" fn cf_correct(
+    kind: usize,
     p: usize,
     l: usize,
     tile: &mut [u8],
     sheet: &[u8],
     count_or_offset: &mut u64,
 ) -> u64
-    ensures { λ r. ⌜ CorrectWorded p l (now (tile .entry)) (now (sheet .entry)) r (now (tile .exit)) (now («count_or_offset» .exit)) ⌝ }
+    ensures { λ r. ⌜ CorrectWorded kind p l (now (tile .entry)) (now (sheet .entry)) r (now (tile .exit)) (now («count_or_offset» .exit)) ⌝ }
 {
-    match sheet::correct(p, l, tile, sheet) {
+    match sheet::correct(word::kind(kind), p, l, tile, sheet) {
         Corrected::Records(count) => {
             *count_or_offset = count as u64;
             word::done()
@@ -88,19 +98,23 @@ pub extern "C" fn cf_correct(
 pub extern "C" fn cf_next(
     reel: &[u8],
     at: usize,
+    kind: &mut u64,
     number: &mut u64,
     p: &mut u64,
     l: &mut u64,
     offset: &mut u64,
 ) -> u64
-    ensures { λ r. ⌜ NextWorded (now (reel .entry)) at r (now (number .exit)) (now (p .exit)) (now (l .exit)) (now (offset .exit)) ⌝ }
+    ensures { λ r. ⌜ NextWorded (now (reel .entry)) at r (now (kind .exit)) (now (number .exit)) (now (p .exit)) (now (l .exit)) (now (offset .exit)) ⌝ }
 {
+    *kind = 0;
     *number = 0;
     *p = 0;
     *l = 0;
     *offset = 0;
     match reel::next(reel, at) {
         Found::Tile(tile) => {
+            let of = tile.kind;
+            *kind = word::kind_number(of);
             *number = tile.number as u64;
             *p = tile.p as u64;
             *l = tile.l as u64;

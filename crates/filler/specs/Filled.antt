@@ -7,23 +7,37 @@ use native.Mathlib.Omega.{arith}
 use lib.ListN.{length}
 use Rattle.code.specs.Tile.{cell, sum}
 use Rattle.code.specs.OneLine.{along}
+use Rattle.code.specs.Count.{once-only}
+use Rattle.code.specs.Fillings.{fills-once, unsure-several}
+use Rattle.code.specs.declared.Kind.{Kind}
 use Rattle.code.specs.declared.Line.{Line}
 use Rattle.size.specs.Answer as size
 use Rattle.cells.specs.Change.{Added}
-use Rattle.chain.specs.Solve.{SettledBy, Unsettled}
-use Rattle.chain.specs.Settled.{both-added, settled-fill, lines-unfilled}
+use Rattle.chain.specs.Solve.{Solved, none, one, several}
+use Rattle.chain.specs.Settled.{both-added, settled-fill, some-fill}
+use Rattle.chain.specs.declared.filling.Fillings.{Fillings}
+use Rattle.chain.specs.declared.filling.Fillings.the-variants as fillings
 use Rattle.promise.specs.Answer.{done, refused}
-use Rattle.promise.specs.Calls.{Admitted, TileLength, Has, FillTold, fills, none}
-use Rattle.promise.specs.Admit.{admitted-well}
+use Rattle.promise.specs.Calls.{Admitted, TileLength, Looked, Has, FillTold, has-lines}
+use Rattle.promise.specs.Admit.{admitted-well, slope-of}
 
--- both lines' changes are added, where there are such; or there are none
-pub ends-filled : (p l : ℕ) (b c : Line) (X Y : ℕ → ℕ) (x y z : List ℕ) → Admitted p l (TileLength p x) size.well → Has p b × Has p c
-    → SettledBy p l b c (sum p 1 (cell p x)) (sum p l (cell p x)) X Y → length y ≡ length x → length z ≡ length y
-    → Added p (along b X) x y → Added p (along c Y) y z → FillTold p l x b c done z
-ends-filled p l b c X Y x y z a h s ey ez first second =
-    fills a (h .0) (h .1) (settled-fill p l b c _ _ x z (admitted-well a .2) (λ t q. refl) (λ t q. refl)
-    (both-added p l b c _ _ X Y x y z (omega arith) (omega arith) s first second ey ez))
+module _ (kind : Kind) (p l : ℕ) (b c : Line) (X Y : ℕ → ℕ) (x : List ℕ) (a : Admitted kind p l (TileLength p x) size.well) (h : Has p b × Has p c) where
+  -- what the chain told of the tile's sums
+  abbrev pub Told : Fillings → Type 0
+  Told many = Solved p l b c (sum p 1 (cell p x)) (sum p l (cell p x)) X Y many
 
-pub ends-unfilled : (p l : ℕ) (b c : Line) (x : List ℕ) → Admitted p l (TileLength p x) size.well → Has p b × Has p c
-    → Unsettled p l b c (sum p 1 (cell p x)) (sum p l (cell p x)) → FillTold p l x b c (refused 5) x
-ends-unfilled p l b c x a h n = none a (h .0) (h .1) (lines-unfilled p l b c x n)
+  -- there is one filling, and both lines' changes are added; there is none; or there are several
+  pub ends-filled : (y z : List ℕ) → Told fillings.One → length y ≡ length x → length z ≡ length y → Added p (along b X) x y → Added p (along c Y) y z
+      → FillTold kind p l x b c done z
+  ends-filled y z (one sure s) ey ez first second =
+      has-lines a (h .0) (h .1) (Looked.one (once-only (fills-once p l x (slope-of a) b c sure)
+      (settled-fill p l b c _ _ x z (admitted-well a .2) (λ t q. refl) (λ t q. refl)
+      (both-added p l b c _ _ X Y x y z (omega arith) (omega arith) s first second ey ez))) refl)
+
+  pub ends-unfilled : Told fillings.None → FillTold kind p l x b c (refused 5) x
+  ends-unfilled (none f) = has-lines a (h .0) (h .1) (Looked.none (λ y g. f (some-fill p l b c x (admitted-well a .2) .1 (y, g))))
+
+  pub ends-doubtful : Told fillings.Several → FillTold kind p l x b c (refused 8) x
+  ends-doubtful (several unsure s) =
+      let y = some-fill p l b c x (admitted-well a .2) .0 s in
+      has-lines a (h .0) (h .1) (Looked.several (unsure-several p l x (slope-of a) b c (omega arith) (omega arith) unsure (y .0) (y .1)))

@@ -1,6 +1,8 @@
 // Filling one or two flagged lines of a tile.
 use cells::change::add_line;
 use chain::filling;
+use chain::filling::Fillings;
+use code::Kind;
 use code::Line;
 use promise::Outcome;
 use promise::judge_tile;
@@ -32,22 +34,25 @@ fn has_both(p: usize, first: Line, second: Line) -> bool
 }
 
 // Fills one or two flagged lines, whatever bytes they hold. One line is named twice.
-pub fn fill(p: usize, l: usize, tile: &mut [u8], first: Line, second: Line) -> Outcome
-    ensures { λ r. ⌜ FillTold p l (now (tile .entry)) first second (outcomeSaid r) (now (tile .exit)) ⌝ }
+pub fn fill(kind: Kind, p: usize, l: usize, tile: &mut [u8], first: Line, second: Line) -> Outcome
+    ensures { λ r. ⌜ FillTold kind p l (now (tile .entry)) first second (outcomeSaid r) (now (tile .exit)) ⌝ }
 {
-    match judge_tile(p, l, tile.len()) {
+    match judge_tile(kind, p, l, tile.len()) {
         Judgement::Refused(refusal) => Outcome::Refused(refusal),
         Judgement::Taken => {
             if has_both(p, first, second) {
-                let filling = filling::solve(p, l, tile, first, second);
+                let filling = filling::solve(kind, p, l, tile, first, second);
+                let many = filling.many;
                 let x = filling.first;
                 let y = filling.second;
-                if filling.exists {
-                    add_line(p, first, &x, tile);
-                    add_line(p, second, &y, tile);
-                    Outcome::Done
-                } else {
-                    Outcome::Refused(Refusal::Damaged)
+                match many {
+                    Fillings::None => Outcome::Refused(Refusal::Damaged),
+                    Fillings::Several => Outcome::Refused(Refusal::Doubtful),
+                    Fillings::One => {
+                        add_line(p, first, &x, tile);
+                        add_line(p, second, &y, tile);
+                        Outcome::Done
+                    }
                 }
             } else {
                 Outcome::Refused(Refusal::BadPlace)

@@ -5,6 +5,7 @@ use Prim.Native.Nat.{ℕ}
 use native.Mathlib.Omega.{arith}
 use lib.ListN.{length, take, drop}
 use Rattle.code.specs.Tile.{tileLength}
+use Rattle.code.specs.declared.Kind.{Kind}
 use Rattle.promise.specs.Answer as repair
 use Rattle.promise.specs.Once.{repair-told-once}
 use Rattle.reel.specs.Answer.{Said, tile}
@@ -14,17 +15,18 @@ use Rattle.lettering.specs.Line.{tileLine, endLine, stoppedLine}
 use Rattle.listing.specs.Listing.{RepairSays, TileListed, lists, Closes, ends, stops}
 
 -- repair says one thing
-says-once : (p l : ℕ) (bytes : List ℕ) (a b : repair.Said) → RepairSays p l bytes a → RepairSays p l bytes b → a ≡ b
-says-once p l bytes a b x y = repair-told-once p l bytes a b (x .new) (y .new) (x .told) (y .told) .0
+says-once : (k : Kind) (p l : ℕ) (bytes : List ℕ) (a b : repair.Said) → RepairSays k p l bytes a → RepairSays k p l bytes b → a ≡ b
+says-once k p l bytes a b x y = repair-told-once k p l bytes a b (x .new) (y .new) (x .told) (y .told) .0
 
 pub listed-once : {reel : List ℕ} {at : ℕ} {a b : List ℕ} → TileListed reel at a → TileListed reel at b → a ≡ b
-listed-once {reel} {at} (lists {number} {p} {l} {from} {said} told says) (lists {number = m} {p = q} {l = k} {from = start} {said = other} told′ says′) =
-    let e = next-told-once reel at (tile number p l from) (tile m q k start) told told′ in
+listed-once {reel} {at} (lists {k} {number} {p} {l} {from} {said} told says) (lists {k = other-kind} {number = m} {p = q} {l = j} {from = start} {said = other} told′ says′) =
+    let e = next-told-once reel at (tile k number p l from) (tile other-kind m q j start) told told′ in
+    let k-is : k ≡ other-kind = cc in
     let n-is : number ≡ m = cc in
     let p-is : p ≡ q = cc in
-    let l-is : l ≡ k = cc in
+    let l-is : l ≡ j = cc in
     let from-is : from ≡ start = cc in
-    let said-is : said ≡ other = says-once q k (take (tileLength q) (drop start reel)) said other (rw (p-is, l-is, from-is) at says) says′ in
+    let said-is : said ≡ other = says-once other-kind q j (take (tileLength q) (drop start reel)) said other (rw (k-is, p-is, l-is, from-is) at says) says′ in
     λ i. tileLine (n-is i) (p-is i) (l-is i) (said-is i)
 
 pub closes-once : {reel : List ℕ} {a b : List ℕ} → Closes reel a → Closes reel b → a ≡ b

@@ -7,6 +7,7 @@ use native.Mathlib.Omega.{arith}
 use lib.ListN.{length, take, drop, length-append}
 use denote.Ref.{RefT, now}
 use Rattle.code.specs.Tile.{tileLength}
+use Rattle.code.specs.declared.Kind.{Kind}
 use Rattle.reel.specs.Answer.{Said, tile, end, refused, NoTile}
 use Rattle.reel.specs.Calls.{NextTold, BytesTold, RestTold}
 use Rattle.reel.specs.Part.{part-told}
@@ -35,13 +36,13 @@ reached-first reel =
     record { within = omega arith; is-left = rw none refl; few = omega arith; before = []; counted = refl; walked = λ more last on. rw none at on }
 
 -- and goes on behind a tile
-module _ {reel : List ℕ} {left rest : RefT (List ℕ)} {tiles number p l from : ℕ} (reached : Reached reel (now left) tiles)
-    (told : NextTold (now left) 0 (tile number p l from)) (r : RestTold left 0 rest) where
+module _ {reel : List ℕ} {left rest : RefT (List ℕ)} {k : Kind} {tiles number p l from : ℕ} (reached : Reached reel (now left) tiles)
+    (told : NextTold (now left) 0 (tile k number p l from)) (r : RestTold left 0 rest) where
   -- the place that it has come to, the tile there, and the place behind that
   at : ℕ
   at = length reel - length (now left)
 
-  here : NextTold reel at (tile number p l (at + from))
+  here : NextTold reel at (tile k number p l (at + from))
   unfolding at
   here = part-told reel at (omega arith) (rw (reached .is-left) at told)
 
@@ -62,12 +63,12 @@ module _ {reel : List ℕ} {left rest : RefT (List ℕ)} {tiles number p l from 
     within = omega (arith, rest-shorter told r, reached .within);
     is-left = rw reached-to (rest-on reel at (reached .is-left) told r);
     few = omega (arith, rest-shorter told r, reached .within, reached .few, moves-on told .0);
-    before = reached .before ++ (tile number p l (at + from) ∷ []);
-    counted = length-append (reached .before) (tile number p l (at + from) ∷ []) ∙ ap (λ (n : ℕ). n + 1) (reached .counted);
+    before = reached .before ++ (tile k number p l (at + from) ∷ []);
+    counted = length-append (reached .before) (tile k number p l (at + from) ∷ []) ∙ ap (λ (n : ℕ). n + 1) (reached .counted);
     walked = λ more last on.
-        rw (append-assoc (reached .before) (tile number p l (at + from) ∷ []) more)
-        (reached .walked (tile number p l (at + from) ∷ more) last
-        (walk.WalkByPlace.goes-on here (record { said = tile number p l (at + from); told = here; is = refl }) (rw reached-to at on)));
+        rw (append-assoc (reached .before) (tile k number p l (at + from) ∷ []) more)
+        (reached .walked (tile k number p l (at + from) ∷ more) last
+        (walk.WalkByPlace.goes-on here (record { said = tile k number p l (at + from); told = here; is = refl }) (rw reached-to at on)));
   }
 
 -- ---- where it ends
@@ -88,14 +89,14 @@ module _ {reel left : List ℕ} {tiles : ℕ} (reached : Reached reel left tiles
 
 -- ---- the tile
 
-module _ {reel bytes : RefT (List ℕ)} {at number p l from : ℕ} (told : NextTold (now reel) at (tile number p l from)) (handed : BytesTold reel at bytes) where
+module _ {reel bytes : RefT (List ℕ)} {k : Kind} {at number p l from : ℕ} (told : NextTold (now reel) at (tile k number p l from)) (handed : BytesTold reel at bytes) where
   -- the bytes that are handed back where a tile stands are that tile's ..
   pub bytes-are : now bytes ≡ take (tileLength p) (drop from (now reel))
-  bytes-are = tile-stands reel bytes at number p l from told handed .part .holds
+  bytes-are = tile-stands reel bytes at k number p l from told handed .part .holds
 
   -- .. and no tile has more than 65,536
   pub bytes-fit : length (now bytes) ≤ 65536
   bytes-fit =
-      let stands = tile-stands reel bytes at number p l from told handed in
+      let stands = tile-stands reel bytes at k number p l from told handed in
       let side : p - 1 ≤ 256 = omega (arith, stands .size .high) in
       omega (arith, stands .long, mul-le-mul side side)

@@ -4,10 +4,10 @@ use mathlib.Core.List.{List, _++_, append-cancel-left, append-cancel-right}
 use Prim.Native.Nat.{ℕ}
 use native.Mathlib.Omega.{arith}
 use lib.ListN.{getD, take}
-use Rattle.promise.specs.Answer.{clean, cell, column}
+use Rattle.promise.specs.Answer.{clean, cell, column, refused}
 use Rattle.lettering.specs.Line.{ascii, space, lf, decimal, tileLine, endLine, stoppedLine, Holds}
 use Rattle.lettering.specs.Decimal.{decimal-once}
-use Rattle.listing.specs.Worked.{tile-7, tile-8, column-3, stopped-7, end-0}
+use Rattle.listing.specs.Worked.{tile-7, tile-8, column-3, refused-8, stopped-7, end-0}
 
 -- a line that holds a text has its signs: the k-th of them
 sign : {bytes text : List ℕ} {count : ℕ} → Holds bytes count text → {right wrong : List ℕ} → text ≡ right → take count bytes ≡ wrong
@@ -31,6 +31,10 @@ module _ {bytes : List ℕ} {count : ℕ} where
 
   pub cell-exchanged : Holds bytes count (tileLine 8 5 2 (cell 2 3)) → take count bytes ≡ ascii "8 5 2 cell 3 2\n" → ⊥
   cell-exchanged holds said = let z = sign holds tile-8 said 11 in omega arith
+
+  -- the number 5 for a doubtful tile
+  pub five-for-eight : Holds bytes count (tileLine 9 7 2 (refused 8)) → take count bytes ≡ ascii "9 7 2 refused 5\n" → ⊥
+  five-for-eight holds said = let z = sign holds refused-8 said 14 in omega arith
 
   -- a line without its LF
   pub no-lf : Holds bytes count (tileLine 7 5 2 clean) → take count bytes ≡ ascii "7 5 2 clean" → ⊥

@@ -7,10 +7,15 @@ use Rattle.xor.specs.Xor.{_⊕_}
 use Rattle.xor.specs.Sum.{xorBelow}
 use Rattle.code.specs.Tile.{place, cell, sum}
 use Rattle.residue.specs.Test.{upTo}
+use Rattle.code.specs.declared.Kind.the-variants.{New, Old}
+use Rattle.size.specs.Answer as size
+use Rattle.size.specs.Shams.{size-7}
 use Rattle.promise.specs.Answer.{Said, clean, column, row, refused}
 use Rattle.promise.specs.Decide.{both, same, good, outside, differing, filling, one-byte}
 use Rattle.promise.specs.Worked.{Claim, repairs, zeros, mends, admitted-tile, tested}
-use Rattle.reel.specs.Calls.{ends}
+use Rattle.promise.specs.WorkedOld.{tile-14, worked-14}
+use Rattle.reel.specs.Answer.{tile}
+use Rattle.reel.specs.Calls.{NextTold, ends, stands}
 use Rattle.reel.specs.Worked.{whole-case, first, second, walked}
 use Rattle.lettering.specs.Line.{ascii, digitsUpTo, decimal, stateText, tileLine, endLine, stoppedLine}
 use Rattle.listing.specs.Listing.{TileListed, lists, Closes, stops}
@@ -49,6 +54,10 @@ pub refused-5 : tileLine 4294967295 257 3 (refused 5) ≡ ascii "4294967295 257 
 unfolding tileLine stateText decimal digitsUpTo
 refused-5 = refl
 
+pub refused-8 : tileLine 9 7 2 (refused 8) ≡ ascii "9 7 2 refused 8\n"
+unfolding tileLine stateText decimal digitsUpTo
+refused-8 = refl
+
 pub largest : decimal 18446744073709551615 ≡ ascii "18446744073709551615"
 unfolding decimal digitsUpTo
 largest = refl
@@ -70,12 +79,12 @@ Only R text = R text × ((other : List ℕ) → R other → other ≡ text)
 -- the three lines, each settled
 pub first-line : Only (TileListed whole-case 0) (ascii "7 5 2 clean\n")
 first-line =
-    let line = rw tile-7 at (lists first (record { new = zeros; told = computed .0 .0 })) in
+    let line = rw tile-7 at (lists first (record { new = zeros; told = computed .0 New .0 })) in
     (line, λ other said. listed-once said line)
 
 pub second-line : Only (TileListed whole-case 26) (ascii "8 5 2 cell 2 3\n")
 second-line =
-    let line = rw tile-8 at (lists second (record { new = zeros; told = computed .1 .0 })) in
+    let line = rw tile-8 at (lists second (record { new = zeros; told = computed .1 New .0 })) in
     (line, λ other said. listed-once said line)
 
 pub closing-line : Only (Closes whole-case) (ascii "stopped 7 52\n")
@@ -88,3 +97,14 @@ pub empty : Only (Closes []) (ascii "end 0\n")
 empty =
     let line = rw end-0 at (reached-ends (reached-first []) (ends (omega arith))) in
     (line, λ other said. closes-once said line)
+
+-- ---- an old record, whose tile is number 14 of SPEC 10: it is listed as doubtful
+
+abbrev pub doubtful-case : List ℕ
+doubtful-case = 0x5D ∷ 0xD5 ∷ 0 ∷ 7 ∷ 0 ∷ 2 ∷ 0 ∷ 0 ∷ 0 ∷ 9 ∷ tile-14
+
+pub doubtful-line : Only (TileListed doubtful-case 0) (ascii "9 7 2 refused 8\n")
+doubtful-line =
+    let stands-there : NextTold doubtful-case 0 (tile Old 9 7 2 10) = stands {k = Old} (omega arith) (refl, refl) (size.taken size-7 (omega arith, omega arith)) in
+    let line = rw refused-8 at (lists stands-there (record { new = tile-14; told = worked-14 .0 })) in
+    (line, λ other said. listed-once said line)

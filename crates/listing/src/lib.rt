@@ -1,5 +1,6 @@
 // The listing of a reel: a line for each tile, and a closing line. What each line says is settled byte by byte; what is left to the
 // system is to write it.
+use code::Kind;
 pub use lettering::line;
 use libc::STDOUT_FILENO;
 use promise::Repaired;
@@ -14,13 +15,13 @@ ghost use Rattle.listing.specs.Listing.{RepairSays, TileListed, Closes};
 ghost use Rattle.listing.specs.Reached.{Reached};
 
 // What repair says of a tile's bytes, which stay as they are: a copy of them is repaired.
-fn state(p: usize, l: usize, bytes: &[u8], copy: &mut [u8]) -> Repaired
+fn state(kind: Kind, p: usize, l: usize, bytes: &[u8], copy: &mut [u8]) -> Repaired
     requires { ⌜ length (now bytes) ≤ length (now copy) ⌝ }
-    ensures { λ r. ⌜ RepairSays p l (now (bytes .entry)) (repairSaid r) ⌝ }
+    ensures { λ r. ⌜ RepairSays kind p l (now (bytes .entry)) (repairSaid r) ⌝ }
 {
     let n = bytes.len();
     bytes::copy(bytes, copy);
-    mender::repair(p, l, &mut copy[..n])
+    mender::repair(kind, p, l, &mut copy[..n])
 }
 
 // The line of the tile that stands at the start of what is left of a reel.
@@ -31,7 +32,8 @@ fn next_line(left: &[u8], tile: Tile, copy: &mut [u8]) -> line::Line
     ensures { λ r. ⌜ r .length ≤ length (r .bytes) ⌝ }
 {
     let bytes = reel::bytes(left, 0);
-    let said = state(tile.p, tile.l, bytes, copy);
+    let kind = tile.kind;
+    let said = state(kind, tile.p, tile.l, bytes, copy);
     line::tile_line(tile.number, tile.p, tile.l, said)
 }
 

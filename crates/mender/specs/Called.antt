@@ -36,7 +36,7 @@ module _ (p : ℕ) (a : Line) (X : ℕ → ℕ) (x z : List ℕ) (h : number a <
       let t = nth-in p a k .0 (h, q) in
       record { row = t .0; column = t .1; bytes = λ e. d (cancel _ _ _ (sym (nth-changed k q) ∙ sym e ∙ sym (zero-r _))) }
 
-  agrees : (k : ℕ) → (k < p - 1 → X k ≡ 0) → DifferNth p a x z unchanged k → ⊥
+  pub agrees : (k : ℕ) → (k < p - 1 → X k ≡ 0) → DifferNth p a x z unchanged k → ⊥
   agrees k e d =
       let q = nth-in p a k .1 (d .row, d .column) .1 in
       d .bytes (sym (nth-changed k q ∙ ap (λ (w : ℕ). cell p x (rowAt a k) (columnAt a k) ⊕ w) (e q) ∙ zero-r _))

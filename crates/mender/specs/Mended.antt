@@ -1,30 +1,39 @@
 -- How a repair ends: what the search found, and the change that was made to the tile, make an outcome that the call's relation allows.
 -- Assumes nothing.
-use mathlib.Core.Path.{_≡_, sym, _∙_}
+use mathlib.Core.Path.{_≡_, sym, ap, _∙_}
 use mathlib.Core.List.{List}
 use Prim.Native.Nat.{ℕ, _-_, _<_}
+use native.Mathlib.Decide.{ℕ-discrete}
 use native.Mathlib.Omega.{arith}
 use lib.ListN.{length}
-use Rattle.xor.specs.Xor.{self}
+use Rattle.xor.specs.Xor.{_⊕_, self}
 use Rattle.code.specs.Slope.{Slope, slope-inverse}
-use Rattle.code.specs.Tile.{tileLength, cell, sum, Good}
-use Rattle.code.specs.Differ.{agree-at}
+use Rattle.code.specs.Tile.{tileLength, cell, sum, Good, On, Differ}
+use Rattle.code.specs.Differ.{agree-at, index}
+use Rattle.code.specs.Distance.{Parallel}
+use Rattle.code.specs.Filling.{line-difference}
+use Rattle.code.specs.Count.{Only, once-only}
 use Rattle.code.specs.Settle.{settles-ext}
 use Rattle.code.specs.OneLine.{number, Agree, shifted, along, along-ext, along-padded, one-line-settles}
+use Rattle.code.specs.declared.Kind.{Kind}
 use Rattle.code.specs.declared.Line.{Line}
+use Rattle.code.specs.declared.Line.the-variants.{Row, Column}
 use Rattle.size.specs.Answer as size
 use Rattle.walk.specs.Sums.{AllOne}
 use Rattle.walk.specs.Good.{one-good, good-one}
 use Rattle.cells.specs.Change.{Added, changed-good}
 use Rattle.search.specs.Column.{Shifted}
 use Rattle.search.specs.Hurt as hurt
+use Rattle.search.specs.Hurt.{Once}
 use Rattle.search.specs.declared.hurt.Hurt.{Hurt}
 use Rattle.search.specs.declared.hurt.Hurt.the-variants as found
 use Rattle.promise.specs.Answer.{Said, clean, refused}
-use Rattle.promise.specs.Calls.{Admitted, TileLength, Explains, Unexplained, RepairTold, is-good, mends, by-none, Has}
+use Rattle.promise.specs.Calls.{Admitted, TileLength, Looked, Explains, ByLine, RepairTold, is-good, is-hurt, Has}
 use Rattle.promise.specs.Admit.{admitted-well, slope-of}
-use Rattle.promise.specs.Explain.{same-good, explains-has, explained}
-use Rattle.mender.specs.Called.{Called, unchanged}
+use Rattle.promise.specs.Name.{nth-of, in-more}
+use Rattle.promise.specs.Explain.{Unexplained, explains-fills, explains-on, same-good, explains-has, explained}
+use Rattle.promise.specs.Doubt.{line-only, both-only, reach-once, more-several}
+use Rattle.mender.specs.Called.{Called, unchanged, agrees}
 
 -- ---- one line
 
@@ -45,9 +54,33 @@ pub line-unexplained : (p l : ℕ) (a : Line) (x : List ℕ) → Slope p l → (
     → (number a < p - 1 → Agree p l (sum p 1 (cell p x)) (sum p l (cell p x)) a → ⊥) → Unexplained p l x a
 line-unexplained p l a x S bad d y e = let h = explains-has p l a x y bad e in d (omega arith) (explained p l a x S h .0 (y, e))
 
+-- the line that crosses a in its k-th cell
+crossing : Line → ℕ → Line
+crossing (Row r) k = Column k
+crossing (Column c) k = Row k
+
+crossing-crosses : (a : Line) (k : ℕ) → Parallel a (crossing a k) → ⊥
+unfolding crossing
+crossing-crosses (Row r) k h = h
+crossing-crosses (Column c) k h = h
+
+-- a change of one byte is one of the line that crosses there, too
+once-crossing : (p : ℕ) (a : Line) (X : ℕ → ℕ) (x z : List ℕ) (k : ℕ) → number a < p - 1 → Added p (along a X) x z → Once (p - 1) X k
+    → (i j : ℕ) → Differ p x z i j → On (crossing a k) i j
+unfolding crossing
+once-crossing p a X x z k h added once i j d = at a (here (ℕ-discrete (index a i j) k))
+  where
+    here : Dec (index a i j ≡ k) → index a i j ≡ k
+    here (yes e) = e
+    here (no f) = absurd (agrees p a X x z h added (index a i j) (λ q. once (index a i j) q f) (nth-of p a x z (unchanged p a X x z h added) i j d))
+
+    at : (a : Line) → index a i j ≡ k → On (crossing a k) i j
+    at (Row r) e = e
+    at (Column c) e = e
+
 -- ---- the outcome
 
-module _ (p l : ℕ) (x : List ℕ) (X : ℕ → ℕ) (a : Admitted p l (TileLength p x) size.well) where
+module _ (kind : Kind) (p l : ℕ) (x : List ℕ) (X : ℕ → ℕ) (a : Admitted kind p l (TileLength p x) size.well) where
   -- what the search found of the tile's sums
   abbrev pub Found : Hurt → Type 0
   Found which = hurt.Found p l (sum p 1 (cell p x)) (sum p l (cell p x)) X which
@@ -63,16 +96,39 @@ module _ (p l : ℕ) (x : List ℕ) (X : ℕ → ℕ) (a : Admitted p l (TileLen
 
   -- the line that was found is one of the tile's
   pub line-in : {b : Line} → Found (found.One b) → number b < p - 1
-  line-in (hurt.one d h e w) = h
+  line-in (hurt.one d h e w alone) = h
 
-  -- nothing was found hurt; a line was, and its change is added, which is called s; or no line explains it
-  pub ends-clean : Found found.Nothing → RepairTold p l x clean x
+  -- the tile by which a line explains x is the only one, as the search found
+  sole : {b : Line} (z : List ℕ) → (AllOne p (sum p 1 (cell p x)) (sum p l (cell p x)) → ⊥) → number b < p - 1 → Added p (along b X) x z → Explains p l b x z
+      → hurt.Alone p l (sum p 1 (cell p x)) (sum p l (cell p x)) X b → Only (ByLine p l x) z
+  sole {b} z d h added by (hurt.reaching all) = once-only (reach-once p l x (slope-of a) all) (record { line = b; explains = by })
+  sole {b} z d h added by (hurt.one-byte {k} once) =
+      both-only p l x (slope-of a) b (crossing b k) (crossing-crosses b k) by (explains-on p l b (crossing b k) x z by (once-crossing p b X x z k h added once))
+  sole {b} z d h added by (hurt.uncrossed f) = line-only p l x (slope-of a) b by (λ c y cross e. absurd (disagrees c d (λ q. f c q cross) y e))
+
+  -- nothing was found hurt; a line was, and its change is added, which is called s; no line explains it; or it is doubtful
+  pub ends-clean : Found found.Nothing → RepairTold kind p l x clean x
   ends-clean (hurt.good g) = is-good a (one-good p l x g)
 
-  pub ends-mended : {b : Line} {s : Said} (z : List ℕ) → Found (found.One b) → length z ≡ length x → Added p (along b X) x z → Called p b X s → RepairTold p l x s z
-  ends-mended {b} z (hurt.one d h e w) size added called =
+  pub ends-mended : {b : Line} {s : Said} (z : List ℕ) → Found (found.One b) → length z ≡ length x → Added p (along b X) x z → Called p b X s
+      → RepairTold kind p l x s z
+  ends-mended {b} z (hurt.one d h e w alone) size added called =
       let by = line-explains p l b X x z (slope-of a) (omega arith) (size ∙ admitted-well a .2) e w added in
-      mends a by (called .names x z h added (λ none. spoiled d (same-good p l x z (λ i j hi hj. agree-at p x z i j hi hj (none i j)) (by .good))))
+      is-hurt a (spoiled d) (Looked.one (sole z d h added by alone)
+      (called .names x z h added (λ none. spoiled d (same-good p l x z (λ i j hi hj. agree-at p x z i j hi hj (none i j)) (by .good)))))
 
-  pub ends-damaged : Found found.More → RepairTold p l x (refused 5) x
-  ends-damaged (hurt.more d none) = by-none a (λ b. disagrees b d (none b))
+  pub ends-damaged : Found found.More → RepairTold kind p l x (refused 5) x
+  ends-damaged (hurt.more d none) = is-hurt a (spoiled d) (Looked.none (λ y t. disagrees (t .line) d (none (t .line)) y (t .explains)))
+
+  pub ends-doubtful : Found found.Doubtful → RepairTold kind p l x (refused 8) x
+  ends-doubtful (hurt.doubtful {c} {r} d hc hr e f two) =
+      let S = slope-of a in
+      let y = explained p l (Column c) x S (omega arith) .1 e in
+      let z = explained p l (Row r) x S (omega arith) .1 f in
+      let differs = line-difference p l (Column c) x (y .0) S hc (explains-fills p l (Column c) x (y .0) .0 (y .1)) in
+      is-hurt a (spoiled d) (Looked.several
+      (more-several p l x S (Column c) (Row r) (y .1)
+      (in-more p (Column c) x (y .0) (y .1 .same) (two .one) (two .other) (two .apart)
+      (record { row = two .one-lt; column = hc; bytes = λ q. two .at-one (sym (differs (two .one) (omega (arith, two .one-lt))) ∙ ap (λ (v : ℕ). v ⊕ cell p (y .0) (two .one) c) q ∙ self _) })
+      (record { row = two .other-lt; column = hc; bytes = λ q. two .at-other (sym (differs (two .other) (omega (arith, two .other-lt))) ∙ ap (λ (v : ℕ). v ⊕ cell p (y .0) (two .other) c) q ∙ self _) }))
+      (z .1) (λ h. h)))

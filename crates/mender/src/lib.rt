@@ -1,5 +1,6 @@
 // Repairing one hurt line of a tile.
 use cells::change::add_line;
+use code::Kind;
 use code::Line;
 use promise::Repaired;
 use promise::judge_tile;
@@ -15,18 +16,19 @@ ghost use Rattle.promise.specs.Calls.{RepairTold};
 ghost use Rattle.mender.specs.Called.{Called};
 
 // Repairs one hurt column, or one hurt row, and names what was hurt.
-pub fn repair(p: usize, l: usize, tile: &mut [u8]) -> Repaired
-    ensures { λ r. ⌜ RepairTold p l (now (tile .entry)) (repairSaid r) (now (tile .exit)) ⌝ }
+pub fn repair(kind: Kind, p: usize, l: usize, tile: &mut [u8]) -> Repaired
+    ensures { λ r. ⌜ RepairTold kind p l (now (tile .entry)) (repairSaid r) (now (tile .exit)) ⌝ }
 {
-    match judge_tile(p, l, tile.len()) {
+    match judge_tile(kind, p, l, tile.len()) {
         Judgement::Refused(refusal) => Repaired::Refused(refusal),
         Judgement::Taken => {
-            let finding = hurt::find(p, l, tile);
+            let finding = hurt::find(kind, p, l, tile);
             let hurt = finding.hurt;
             let change = finding.change;
             match hurt {
                 Hurt::Nothing => Repaired::Clean,
                 Hurt::More => Repaired::Refused(Refusal::Damaged),
+                Hurt::Doubtful => Repaired::Refused(Refusal::Doubtful),
                 Hurt::One(line) => {
                     add_line(p, line, &change, tile);
                     name(p, line, &change)

@@ -5,17 +5,20 @@ use mathlib.Core.List.{List}
 use Prim.Native.Nat.{ℕ, _+_, _≤_}
 use lib.ListN.{length}
 use Rattle.code.specs.Tile.{tileLength, textLength, Good, textOf, Writes, On, EqualOutside, Differ, Fills}
+use Rattle.code.specs.Count.{None, Only, Several}
 use Rattle.code.specs.OneLine.{number}
+use Rattle.code.specs.declared.Kind.{Kind}
 use Rattle.code.specs.declared.Line.{Line}
 use Rattle.code.specs.declared.Line.the-variants.{Row, Column}
 use Rattle.size.specs.Answer as size
 use Rattle.promise.specs.Answer.{Said, done, clean, cell, column, row, refused}
 
--- SPEC 5 and 9.2: how every tile call begins: refused 1 or 2 as p and l are judged, then 3 where a length is wrong; otherwise it goes on
-pub data Admitted (p l : ℕ) (Lengths : Type 0) : size.Said → Type 0 where
-  judged : {n : ℕ} → size.Judged p l (size.refused n) → Admitted p l Lengths (size.refused n)
-  no-length : size.Judged p l size.well → (Lengths → ⊥) → Admitted p l Lengths (size.refused 3)
-  admitted : size.Judged p l size.well → Lengths → Admitted p l Lengths size.well
+-- SPEC 5 and 9.2: how every tile call begins: refused 1 or 2 as the kind, p and l are judged, then 3 where a length is wrong; otherwise it
+-- goes on
+pub data Admitted (k : Kind) (p l : ℕ) (Lengths : Type 0) : size.Said → Type 0 where
+  judged : {n : ℕ} → size.Judged k p l (size.refused n) → Admitted k p l Lengths (size.refused n)
+  no-length : size.Judged k p l size.well → (Lengths → ⊥) → Admitted k p l Lengths (size.refused 3)
+  admitted : size.Judged k p l size.well → Lengths → Admitted k p l Lengths size.well
 
 -- SPEC 5, with 3.1 and 3.2: the length that repair and fill ask for, and those that write and read do
 abbrev pub TileLength : ℕ → List ℕ → Type 0
@@ -25,15 +28,22 @@ abbrev pub BothLengths : ℕ → List ℕ → List ℕ → Type 0
 BothLengths p tile text = TileLength p tile × (length text ≡ textLength p)
 
 -- SPEC 5.1: WRITE. Whatever the tile held, it becomes the good one that has the text
-pub data WriteTold (p l : ℕ) (text tile : List ℕ) : Said → List ℕ → Type 0 where
-  refuses : {n : ℕ} → Admitted p l (BothLengths p tile text) (size.refused n) → WriteTold p l text tile (refused n) tile
-  writes : {new : List ℕ} → Admitted p l (BothLengths p tile text) size.well → Writes p l text new → WriteTold p l text tile done new
+pub data WriteTold (k : Kind) (p l : ℕ) (text tile : List ℕ) : Said → List ℕ → Type 0 where
+  refuses : {n : ℕ} → Admitted k p l (BothLengths p tile text) (size.refused n) → WriteTold k p l text tile (refused n) tile
+  writes : {new : List ℕ} → Admitted k p l (BothLengths p tile text) size.well → Writes p l text new → WriteTold k p l text tile done new
 
 -- SPEC 5.2: READ. If the tile is good the text becomes the tile's, and otherwise it is refused with 5
-pub data ReadTold (p l : ℕ) (tile text : List ℕ) : Said → List ℕ → Type 0 where
-  refuses : {n : ℕ} → Admitted p l (BothLengths p tile text) (size.refused n) → ReadTold p l tile text (refused n) text
-  not-good : Admitted p l (BothLengths p tile text) size.well → (Good p l tile → ⊥) → ReadTold p l tile text (refused 5) text
-  reads : Admitted p l (BothLengths p tile text) size.well → Good p l tile → ReadTold p l tile text done (textOf p tile)
+pub data ReadTold (k : Kind) (p l : ℕ) (tile text : List ℕ) : Said → List ℕ → Type 0 where
+  refuses : {n : ℕ} → Admitted k p l (BothLengths p tile text) (size.refused n) → ReadTold k p l tile text (refused n) text
+  not-good : Admitted k p l (BothLengths p tile text) size.well → (Good p l tile → ⊥) → ReadTold k p l tile text (refused 5) text
+  reads : Admitted k p l (BothLengths p tile text) size.well → Good p l tile → ReadTold k p l tile text done (textOf p tile)
+
+-- SPEC 5.3 and 5.4: what comes of looking at all good tiles that have F. If there is exactly one, the lent tile becomes this one, and what
+-- is said is its name; if there is none, this is refused with 5; if there are two that are different, with 8
+pub data Looked (F : List ℕ → Type 0) (Name : List ℕ → Said → Type 0) (lent : List ℕ) : Said → List ℕ → Type 0 where
+  one : {said : Said} {new : List ℕ} → Only F new → Name new said → Looked F Name lent said new
+  none : None F → Looked F Name lent (refused 5) lent
+  several : Several F → Looked F Name lent (refused 8) lent
 
 -- SPEC 5.3: the line a explains x by y, a good tile that agrees with x outside a
 pub record Explains (p l : ℕ) (a : Line) (x y : List ℕ) : Type 0 where
@@ -41,9 +51,10 @@ pub record Explains (p l : ℕ) (a : Line) (x y : List ℕ) : Type 0 where
   pub good : Good p l y
   pub same : EqualOutside p a x y
 
--- SPEC 5.3: the line a does not explain x, by any tile
-abbrev pub Unexplained : ℕ → ℕ → List ℕ → Line → Type 0
-Unexplained p l x a = (y : List ℕ) → Explains p l a x y → ⊥
+-- SPEC 5.3: some line, a row or a column, explains x by y
+pub record ByLine (p l : ℕ) (x y : List ℕ) : Type 0 where
+  pub line : Line
+  pub explains : Explains p l line x y
 
 -- SPEC 5.3: two tiles differ in exactly one byte, in cell (i, j)
 pub record OneByte (p : ℕ) (x y : List ℕ) (i j : ℕ) : Type 0 where
@@ -67,24 +78,25 @@ pub data Named (p : ℕ) (x y : List ℕ) : Said → Type 0 where
   by-column : {c : ℕ} → MoreBytes p x y (Column c) → Named p x y (column c)
   by-row : {r : ℕ} → MoreBytes p x y (Row r) → Named p x y (row r)
 
--- SPEC 5.3: REPAIR. A good tile is clean. Any other becomes a good one that agrees with it outside one line, and the answer is the name of
--- their difference; if no line explains it, it is refused with 5
-pub data RepairTold (p l : ℕ) (tile : List ℕ) : Said → List ℕ → Type 0 where
-  refuses : {n : ℕ} → Admitted p l (TileLength p tile) (size.refused n) → RepairTold p l tile (refused n) tile
-  is-good : Admitted p l (TileLength p tile) size.well → Good p l tile → RepairTold p l tile clean tile
-  mends : {a : Line} {said : Said} {new : List ℕ} → Admitted p l (TileLength p tile) size.well → Explains p l a tile new → Named p tile new said
-      → RepairTold p l tile said new
-  by-none : Admitted p l (TileLength p tile) size.well → ((a : Line) → Unexplained p l tile a) → RepairTold p l tile (refused 5) tile
+-- SPEC 5.3: REPAIR. A good tile is clean. Of any other, all good tiles by which some line explains it are looked at, and the answer is the
+-- name of the difference
+pub data RepairTold (k : Kind) (p l : ℕ) (tile : List ℕ) : Said → List ℕ → Type 0 where
+  refuses : {n : ℕ} → Admitted k p l (TileLength p tile) (size.refused n) → RepairTold k p l tile (refused n) tile
+  is-good : Admitted k p l (TileLength p tile) size.well → Good p l tile → RepairTold k p l tile clean tile
+  is-hurt : {said : Said} {new : List ℕ} → Admitted k p l (TileLength p tile) size.well → (Good p l tile → ⊥)
+      → Looked (ByLine p l tile) (Named p tile) tile said new → RepairTold k p l tile said new
 
 -- SPEC 3.4: the tile has the line, whose number is 0 to p-2
 abbrev pub Has : ℕ → Line → Type 0
 Has p a = number a + 2 ≤ p
 
--- SPEC 5.4: FILL. Refused 4 where the tile does not have a named line, then 5 where it has no filling; otherwise it becomes the filling
-pub data FillTold (p l : ℕ) (tile : List ℕ) (a b : Line) : Said → List ℕ → Type 0 where
-  refuses : {n : ℕ} → Admitted p l (TileLength p tile) (size.refused n) → FillTold p l tile a b (refused n) tile
-  no-line : Admitted p l (TileLength p tile) size.well → (Has p a × Has p b → ⊥) → FillTold p l tile a b (refused 4) tile
-  none : Admitted p l (TileLength p tile) size.well → Has p a → Has p b → ((y : List ℕ) → Fills p l a b tile y → ⊥)
-      → FillTold p l tile a b (refused 5) tile
-  fills : {new : List ℕ} → Admitted p l (TileLength p tile) size.well → Has p a → Has p b → Fills p l a b tile new
-      → FillTold p l tile a b done new
+-- SPEC 5.4: a filling has no name: whichever it is, done is said
+abbrev pub Done : List ℕ → Said → Type 0
+Done new said = said ≡ done
+
+-- SPEC 5.4: FILL. Refused 4 where the tile does not have a named line; otherwise all its fillings are looked at
+pub data FillTold (k : Kind) (p l : ℕ) (tile : List ℕ) (a b : Line) : Said → List ℕ → Type 0 where
+  refuses : {n : ℕ} → Admitted k p l (TileLength p tile) (size.refused n) → FillTold k p l tile a b (refused n) tile
+  no-line : Admitted k p l (TileLength p tile) size.well → (Has p a × Has p b → ⊥) → FillTold k p l tile a b (refused 4) tile
+  has-lines : {said : Said} {new : List ℕ} → Admitted k p l (TileLength p tile) size.well → Has p a → Has p b
+      → Looked (Fills p l a b tile) Done tile said new → FillTold k p l tile a b said new

@@ -7,17 +7,20 @@ use lib.ListN.{length}
 use Rattle.xor.specs.Xor.{_⊕_, xors, from}
 use Rattle.code.specs.Tile.{tileLength, cell, Good, Differ, Fills, xored}
 use Rattle.code.specs.Xored.{xored-length, xored-twice, xored-cell, xored-good}
+use Rattle.code.specs.Count.{none-over, only-over, several-over}
+use Rattle.code.specs.declared.Kind.{Kind}
 use Rattle.code.specs.declared.Line.{Line}
 use Rattle.size.specs.Answer as size
 use Rattle.promise.specs.Answer.{Said, refused}
-use Rattle.promise.specs.Calls.{Admitted, TileLength, Explains, Unexplained, MoreBytes, Named, by-cell, by-column, by-row, RepairTold, FillTold}
+use Rattle.promise.specs.Calls.{Admitted, TileLength, Looked, ByLine, MoreBytes, Named, by-cell, by-column, by-row, RepairTold, FillTold}
 use Rattle.promise.specs.Admit.{admitted-well}
 use Rattle.promise.specs.Explain.{explains-fills}
+use Rattle.promise.specs.Promise.{repairs}
 
 -- w is the good tile that is added
-module _ (p l : ℕ) (w : List ℕ) (g : Good p l w) where
+module _ (k : Kind) (p l : ℕ) (w : List ℕ) (g : Good p l w) where
   -- what is judged of the tile's length stays
-  admitted-carried : (x : List ℕ) {s : size.Said} → Admitted p l (TileLength p x) s → Admitted p l (TileLength p (xored x w)) s
+  admitted-carried : (x : List ℕ) {s : size.Said} → Admitted k p l (TileLength p x) s → Admitted k p l (TileLength p (xored x w)) s
   admitted-carried x h = rw (xored-length x w) h
 
   -- a filling of x, with w added, is one of x with w added ..
@@ -34,11 +37,24 @@ module _ (p l : ℕ) (w : List ℕ) (g : Good p l w) where
   fills-back a b x y e f = rw (xored-twice x w) at (fills-carried a b (xored x w) y (xored-length x w ∙ e) f)
 
   -- the same of one line, which is a filling of that line named twice
-  explains-carried : (a : Line) (x y : List ℕ) → length x ≡ tileLength p → Explains p l a x y → Explains p l a (xored x w) (xored y w)
-  explains-carried a x y e f = explains-fills p l a (xored x w) (xored y w) .1 (fills-carried a a x y e (explains-fills p l a x y .0 f))
+  line-carried : (x y : List ℕ) → length x ≡ tileLength p → ByLine p l x y → ByLine p l (xored x w) (xored y w)
+  line-carried x y e t = record {
+    line = t .line;
+    explains = explains-fills p l (t .line) (xored x w) (xored y w) .1 (fills-carried (t .line) (t .line) x y e (explains-fills p l (t .line) x y .0 (t .explains)));
+  }
 
-  unexplained-carried : (a : Line) (x : List ℕ) → length x ≡ tileLength p → Unexplained p l x a → Unexplained p l (xored x w) a
-  unexplained-carried a x e u y f = u (xored y w) (explains-fills p l a x (xored y w) .1 (fills-back a a x y e (explains-fills p l a (xored x w) y .0 f)))
+  line-back : (x y : List ℕ) → length x ≡ tileLength p → ByLine p l (xored x w) y → ByLine p l x (xored y w)
+  line-back x y e t = rw (xored-twice x w) at (line-carried (xored x w) y (xored-length x w ∙ e) t)
+
+  -- WHATEVER IS LOOKED AT: if w takes those that have F to those that have G, and back, and a name stays, then w is carried through: one
+  -- stays one, none stays none, and what is doubtful stays doubtful
+  looked-carried : {F G : List ℕ → Type 0} {Name Other : List ℕ → Said → Type 0} {x y : List ℕ} {s : Said}
+      → ((z : List ℕ) → F z → G (xored z w)) → ((z : List ℕ) → G z → F (xored z w)) → ((z : List ℕ) → F z → Name z s → Other (xored z w) s)
+      → Looked F Name x s y → Looked G Other (xored x w) s (xored y w)
+  looked-carried there back named (Looked.one {new} o n) =
+      Looked.one (only-over (λ z. xored z w) (λ z. xored z w) there back (λ z. xored-twice z w) o) (named new (o .is) n)
+  looked-carried there back named (Looked.none f) = Looked.none (none-over (λ z. xored z w) (λ z. xored z w) there back f)
+  looked-carried there back named (Looked.several d) = Looked.several (several-over (λ z. xored z w) (λ z. xored z w) there back (λ z. xored-twice z w) d)
 
   -- two tiles to which w is added differ where they did ..
   differ-carried : (x y : List ℕ) (i j : ℕ) → length x ≡ tileLength p → length y ≡ tileLength p → Differ p x y i j → Differ p (xored x w) (xored y w) i j
@@ -76,25 +92,26 @@ module _ (p l : ℕ) (w : List ℕ) (g : Good p l w) where
       go (by-row m) = by-row (more m)
 
   -- REPAIR carries w through
-  pub repair-carried : {x y : List ℕ} {s : Said} → RepairTold p l x s y → RepairTold p l (xored x w) s (xored y w)
+  pub repair-carried : {x y : List ℕ} {s : Said} → RepairTold k p l x s y → RepairTold k p l (xored x w) s (xored y w)
   repair-carried {x} (RepairTold.refuses h) = RepairTold.refuses (admitted-carried x h)
   repair-carried {x} (RepairTold.is-good h good) = RepairTold.is-good (admitted-carried x h) (xored-good p x w (admitted-well h .2) l good g)
-  repair-carried {x} {y} (RepairTold.mends {a} h e n) =
+  repair-carried {x} (RepairTold.is-hurt h bad q) =
       let size = admitted-well h .2 in
-      RepairTold.mends (admitted-carried x h) (explains-carried a x y size e) (named-carried x y size (e .size) n)
-  repair-carried {x} (RepairTold.by-none h lines) = RepairTold.by-none (admitted-carried x h) (λ a. unexplained-carried a x (admitted-well h .2) (lines a))
+      repairs (admitted-carried x h)
+      (looked-carried (λ z. line-carried x z size) (λ z. line-back x z size) (λ z t. named-carried x z size (t .explains .size)) q)
 
   -- and so does FILL
-  pub fill-carried : {x y : List ℕ} {a b : Line} {s : Said} → FillTold p l x a b s y → FillTold p l (xored x w) a b s (xored y w)
+  pub fill-carried : {x y : List ℕ} {a b : Line} {s : Said} → FillTold k p l x a b s y → FillTold k p l (xored x w) a b s (xored y w)
   fill-carried {x} (FillTold.refuses h) = FillTold.refuses (admitted-carried x h)
   fill-carried {x} (FillTold.no-line h f) = FillTold.no-line (admitted-carried x h) f
-  fill-carried {x} {y} {a} {b} (FillTold.none h ha hb f) =
-      FillTold.none (admitted-carried x h) ha hb (λ z q. f (xored z w) (fills-back a b x z (admitted-well h .2) q))
-  fill-carried {x} {y} {a} {b} (FillTold.fills h ha hb f) = FillTold.fills (admitted-carried x h) ha hb (fills-carried a b x y (admitted-well h .2) f)
+  fill-carried {x} {y} {a} {b} (FillTold.has-lines h ha hb q) =
+      let size = admitted-well h .2 in
+      FillTold.has-lines (admitted-carried x h) ha hb (looked-carried (λ z. fills-carried a b x z size) (λ z. fills-back a b x z size) (λ z f d. d) q)
 
 -- where a repair succeeds it leaves a good tile
-pub repaired-good : {p l : ℕ} {x y : List ℕ} {s : Said} → ((n : ℕ) → s ≡ refused n → ⊥) → RepairTold p l x s y → (length y ≡ tileLength p) × Good p l y
+pub repaired-good : {k : Kind} {p l : ℕ} {x y : List ℕ} {s : Said} → ((n : ℕ) → s ≡ refused n → ⊥) → RepairTold k p l x s y → (length y ≡ tileLength p) × Good p l y
 repaired-good d (RepairTold.refuses {n} h) = absurd (d n refl)
 repaired-good d (RepairTold.is-good h g) = (admitted-well h .2, g)
-repaired-good d (RepairTold.mends h e n) = (e .size, e .good)
-repaired-good d (RepairTold.by-none h f) = absurd (d 5 refl)
+repaired-good d (RepairTold.is-hurt h bad (Looked.one o n)) = (o .is .explains .size, o .is .explains .good)
+repaired-good d (RepairTold.is-hurt h bad (Looked.none f)) = absurd (d 5 refl)
+repaired-good d (RepairTold.is-hurt h bad (Looked.several e)) = absurd (d 8 refl)

@@ -1,26 +1,29 @@
--- Tests that antt computes, each with what it shows where it passes: that a tile at p 5, l 2 is good or not, that a tile is the filling of
--- another, or that there is none, in which cells two tiles differ; and lists of cases, each with its test. Assumes nothing.
+-- Tests that antt computes, each with what it shows where it passes: that a tile is good or not, that a tile is the filling of another, or
+-- that there is none, in which cells two tiles differ; and lists of cases, each with its test. Assumes nothing.
 use mathlib.Core.Path.{_≡_, refl, sym, ap₂, _∙_}
 use mathlib.Core.Bool.{Bool, true, false, _&&_, _||_, not}
 use mathlib.Core.List.{List, [], _∷_}
-use Prim.Native.Nat.{ℕ, zero, suc, _≤_, _<_}
-use native.Mathlib.Nat.{zero-lt-suc, lt-suc-self, le-step}
+use Prim.Native.Nat.{ℕ, zero, suc, _-_, _%_, _^_, _≤_, _<_}
+use native.Mathlib.Nat.{lt-suc-self, le-step}
 use native.Mathlib.Omega.{arith}
 use lib.Dec.{T, T-not, not-T, eqb, eqb→eq, eqb-refl, leb, leb→le}
 use lib.ListN.{length, getD}
-use Rattle.code.specs.Slope.{Slope, allowed-slope}
+use Rattle.residue.specs.Order.{Order}
+use Rattle.code.specs.Slope.{Slope}
 use Rattle.code.specs.Tile.{tileLength, cell, line, sum, Good, On, EqualOutsideBoth, Differ, Fills}
 use Rattle.residue.specs.Test.{and-left, and-right, and-both, or-either, imp, imp-on, upTo, up-at, at-up}
 use Rattle.code.specs.Good.{named-twice}
 use Rattle.code.specs.OneLine.{number, rowAt, columnAt, through, Agree}
 use Rattle.code.specs.Differ.{differ-on}
-use Rattle.code.specs.Filling.{crossing-agrees, fills-either}
+use Rattle.code.specs.Filling.{fills-either}
+use Rattle.code.specs.Classes.{classSum}
+use Rattle.code.specs.Count.{None}
+use Rattle.code.specs.Fillings.{crossed-none}
 use Rattle.code.specs.declared.Line.{Line}
 use Rattle.code.specs.declared.Line.the-variants.{Row, Column}
-use Rattle.size.specs.Shams.{size-5, at-5-2}
-use Rattle.promise.specs.Calls.{Explains, Unexplained, OneByte, MoreBytes, Has}
+use Rattle.promise.specs.Calls.{Explains, ByLine, OneByte, MoreBytes, Has}
 use Rattle.promise.specs.Name.{in-more}
-use Rattle.promise.specs.Explain.{explains-fills, explains-has, explained}
+use Rattle.promise.specs.Explain.{Unexplained, explains-fills, explains-has, explained}
 
 -- ---- tests
 
@@ -116,36 +119,43 @@ module _ {Case : Type 0} (Claim : Case → Type 0) where
   numbered c h (d ∷ ds) t zero = t .0
   numbered c h (d ∷ ds) t (suc k) = numbered c h ds (t .1) k
 
--- ---- tiles at p 5, l 2
+-- the order of l: its n-th power is 1, and none of those before, but for the 0-th
+unfoldable pub order-is : (p l n : ℕ) → Test (Order p l n)
+order-is p l n =
+    so (both (at-most 1 n) (both (equal ((l ^ n) % p) 1)
+    (below (λ k. 0 < k → (l ^ k) % p ≡ 1 → ⊥) n (λ k. unless-zero k (refuted (eqb ((l ^ k) % p) 1) (equal-passes ((l ^ k) % p) 1))))))
+    (λ t. record { some = t .0; back = t .1 .0; first = λ k h q. t .1 .1 k q h })
+  where
+    unless-zero : {A : Type 0} (k : ℕ) → Test A → Test (0 < k → A)
+    unless-zero zero t = record { pass = true; shows = λ h q. absurd (omega arith) }
+    unless-zero (suc k) t = so t (λ a q. a)
 
--- 2 is a slope at 5
-pub slope-5-2 : Slope 5 2
-slope-5-2 = allowed-slope 5 2 size-5 at-5-2
+-- ---- tiles of some size and slope
 
 -- the sum of the slope-s line t
-abbrev pub sumOf : List ℕ → ℕ → ℕ → ℕ
-sumOf x s t = sum 5 s (cell 5 x) t
-
--- good: all sums equal that of the first line
-unfoldable pub good : (x : List ℕ) → Test (Good 5 2 x)
-good x = so (both (equals (sumOf x 1) (λ t. sumOf x 1 0) 5) (equals (sumOf x 2) (λ t. sumOf x 1 0) 5))
-    (λ t. record { common = sumOf x 1 0; first = t .0; second = t .1 })
+abbrev pub sumOf : ℕ → List ℕ → ℕ → ℕ → ℕ
+sumOf p x s t = sum p s (cell p x) t
 
 -- the byte that a good tile's sums equal is that of the first line
-pub common-is : (x : List ℕ) (g : Good 5 2 x) → sumOf x 1 0 ≡ g .common
-common-is x g = g .first 0 (zero-lt-suc 4)
+pub common-is : (p l : ℕ) (x : List ℕ) (g : Good p l x) → 0 < p → sumOf p x 1 0 ≡ g .common
+common-is p l x g h = g .first 0 h
+
+-- good: all sums equal that of the first line
+unfoldable pub good : (p l : ℕ) (x : List ℕ) → Test (Good p l x)
+good p l x = so (both (equals (sumOf p x 1) (λ t. sumOf p x 1 0) p) (equals (sumOf p x l) (λ t. sumOf p x 1 0) p))
+    (λ t. record { common = sumOf p x 1 0; first = t .0; second = t .1 })
 
 -- a good tile passes ..
-pub good-passes : (x : List ℕ) → Good 5 2 x → T (good x .pass)
+pub good-passes : (p l : ℕ) (x : List ℕ) → Good p l x → T (good p l x .pass)
 unfolding good
-good-passes x g =
-    and-both (equals (sumOf x 1) (λ t. sumOf x 1 0) 5 .pass) (equals (sumOf x 2) (λ t. sumOf x 1 0) 5 .pass)
-    (equals-pass (sumOf x 1) (λ t. sumOf x 1 0) 5 (λ t q. g .first t q ∙ sym (common-is x g)))
-    (equals-pass (sumOf x 2) (λ t. sumOf x 1 0) 5 (λ t q. g .second t q ∙ sym (common-is x g)))
+good-passes p l x g =
+    and-both (equals (sumOf p x 1) (λ t. sumOf p x 1 0) p .pass) (equals (sumOf p x l) (λ t. sumOf p x 1 0) p .pass)
+    (equals-pass (sumOf p x 1) (λ t. sumOf p x 1 0) p (λ t q. g .first t q ∙ sym (common-is p l x g (omega arith))))
+    (equals-pass (sumOf p x l) (λ t. sumOf p x 1 0) p (λ t q. g .second t q ∙ sym (common-is p l x g (omega arith))))
 
 -- .. so one that does not is not good
-unfoldable pub not-good : (x : List ℕ) → Test (Good 5 2 x → ⊥)
-not-good x = refuted (good x .pass) (good-passes x)
+unfoldable pub not-good : (p l : ℕ) (x : List ℕ) → Test (Good p l x → ⊥)
+not-good p l x = refuted (good p l x .pass) (good-passes p l x)
 
 -- the cell is on the line
 abbrev on : (a : Line) (i j : ℕ) → Test (On a i j)
@@ -153,44 +163,44 @@ on (Row r) i j = equal i r
 on (Column c) i j = equal j c
 
 -- two tiles are equal outside two lines
-unfoldable pub outside : (a b : Line) (x y : List ℕ) → Test (EqualOutsideBoth 5 a b x y)
-outside a b x y =
-    so (below (λ i. (j : ℕ) → j < 4 → (On a i j → ⊥) → (On b i j → ⊥) → cell 5 x i j ≡ cell 5 y i j) 4 (λ i.
-    below (λ j. (On a i j → ⊥) → (On b i j → ⊥) → cell 5 x i j ≡ cell 5 y i j) 4 (λ j.
-    unless (on a i j) (unless (on b i j) (equal (cell 5 x i j) (cell 5 y i j))))))
+unfoldable pub outside : (p : ℕ) (a b : Line) (x y : List ℕ) → Test (EqualOutsideBoth p a b x y)
+outside p a b x y =
+    so (below (λ i. (j : ℕ) → j < p - 1 → (On a i j → ⊥) → (On b i j → ⊥) → cell p x i j ≡ cell p y i j) (p - 1) (λ i.
+    below (λ j. (On a i j → ⊥) → (On b i j → ⊥) → cell p x i j ≡ cell p y i j) (p - 1) (λ j.
+    unless (on a i j) (unless (on b i j) (equal (cell p x i j) (cell p y i j))))))
     (λ t i j hi hj. t i hi j hj)
 
 -- two tiles differ in a cell
-unfoldable pub differing : (x y : List ℕ) (i j : ℕ) → Test (Differ 5 x y i j)
-differing x y i j =
-    so (both (both (at-most (suc i) 4) (at-most (suc j) 4)) (refuted (eqb (cell 5 x i j) (cell 5 y i j)) (equal-passes (cell 5 x i j) (cell 5 y i j))))
+unfoldable pub differing : (p : ℕ) (x y : List ℕ) (i j : ℕ) → Test (Differ p x y i j)
+differing p x y i j =
+    so (both (both (at-most (suc i) (p - 1)) (at-most (suc j) (p - 1))) (refuted (eqb (cell p x i j) (cell p y i j)) (equal-passes (cell p x i j) (cell p y i j))))
     (λ t. record { row = t .0 .0; column = t .0 .1; bytes = t .1 })
 
 -- y is a filling of x in the lines a and b
-unfoldable pub filling : (a b : Line) (x y : List ℕ) → Test (Fills 5 2 a b x y)
-filling a b x y =
-    so (both (equal (length y) (tileLength 5)) (both (good y) (outside a b x y))) (λ t. record { size = t .0; good = t .1 .0; agrees = t .1 .1 })
+unfoldable pub filling : (p l : ℕ) (a b : Line) (x y : List ℕ) → Test (Fills p l a b x y)
+filling p l a b x y =
+    so (both (equal (length y) (tileLength p)) (both (good p l y) (outside p a b x y))) (λ t. record { size = t .0; good = t .1 .0; agrees = t .1 .1 })
 
 -- y is a good tile that differs from x within the line a
-abbrev pub explaining : (a : Line) (x y : List ℕ) → Test (Explains 5 2 a x y)
-explaining a x y = so (filling a a x y) (explains-fills 5 2 a x y .1)
+abbrev pub explaining : (p l : ℕ) (a : Line) (x y : List ℕ) → Test (Explains p l a x y)
+explaining p l a x y = so (filling p l a a x y) (explains-fills p l a x y .1)
 
 -- in two cells of the line a and in none outside it
-unfoldable pub more-bytes : (a : Line) (x y : List ℕ) → Test (MoreBytes 5 x y a)
-more-bytes a x y =
-    let Nth : ℕ → Type 0 = λ k. Differ 5 x y (rowAt a k) (columnAt a k) in
-    let nth : (k : ℕ) → Test (Nth k) = λ k. differing x y (rowAt a k) (columnAt a k) in
-    so (both (outside a a x y) (some (λ k. Nth k × ((m : ℕ) × (m < k) × Nth m)) 4 (λ k. both (nth k) (some Nth k nth)))) (λ t.
-    let two = t .1 .2 in in-more 5 a x y (named-twice 5 a x y .1 (t .0)) (t .1 .0) (two .1 .0) (omega (arith, two .1 .1)) (two .0) (two .1 .2))
+unfoldable pub more-bytes : (p : ℕ) (a : Line) (x y : List ℕ) → Test (MoreBytes p x y a)
+more-bytes p a x y =
+    let Nth : ℕ → Type 0 = λ k. Differ p x y (rowAt a k) (columnAt a k) in
+    let nth : (k : ℕ) → Test (Nth k) = λ k. differing p x y (rowAt a k) (columnAt a k) in
+    so (both (outside p a a x y) (some (λ k. Nth k × ((m : ℕ) × (m < k) × Nth m)) (p - 1) (λ k. both (nth k) (some Nth k nth)))) (λ t.
+    let two = t .1 .2 in in-more p a x y (named-twice p a x y .1 (t .0)) (t .1 .0) (two .1 .0) (omega (arith, two .1 .1)) (two .0) (two .1 .2))
 
 -- in one cell alone: they agree outside its column, and outside its row
-unfoldable pub one-byte : (x y : List ℕ) (i j : ℕ) → Test (OneByte 5 x y i j)
-one-byte x y i j =
-    so (both (differing x y i j) (both (outside (Row i) (Row i) x y) (outside (Column j) (Column j) x y))) (λ t. record {
+unfoldable pub one-byte : (p : ℕ) (x y : List ℕ) (i j : ℕ) → Test (OneByte p x y i j)
+one-byte p x y i j =
+    so (both (differing p x y i j) (both (outside p (Row i) (Row i) x y) (outside p (Column j) (Column j) x y))) (λ t. record {
       here = t .0;
       alone = λ r k d. (
-        differ-on 5 (Row i) x y .0 (named-twice 5 (Row i) x y .1 (t .1 .0)) r k d,
-        differ-on 5 (Column j) x y .0 (named-twice 5 (Column j) x y .1 (t .1 .1)) r k d,
+        differ-on p (Row i) x y .0 (named-twice p (Row i) x y .1 (t .1 .0)) r k d,
+        differ-on p (Column j) x y .0 (named-twice p (Column j) x y .1 (t .1 .1)) r k d,
       );
     })
 
@@ -199,31 +209,37 @@ pub each-line : (P : Line → Type 0) → ((k : ℕ) → P (Column k)) → ((k :
 each-line P f g (Column c) = f c
 each-line P f g (Row r) = g r
 
--- none of the lines f 0, f 1, .. explains a tile that is not good: along the four that it has the sums disagree
-unfoldable pub none : (f : ℕ → Line) → ((k : ℕ) → number (f k) ≡ k) → (x : List ℕ)
-    → Test ((Good 5 2 x → ⊥) → (k : ℕ) → Unexplained 5 2 x (f k))
-none f numbered x =
-    so (below (λ k. Agree 5 2 (sumOf x 1) (sumOf x 2) (f k) → ⊥) 4 (λ k.
-    let A : ℕ → ℕ = λ i. sumOf x 1 (through 5 1 (f k) i) in
-    let B : ℕ → ℕ = λ i. sumOf x 2 (through 5 2 (f k) i) in
-    refuted (equals A B 5 .pass) (equals-pass A B 5)))
-    (λ t bad k y e. let has = explains-has 5 2 (f k) x y bad e in t k (omega (arith, has, numbered k)) (explained 5 2 (f k) x slope-5-2 has .0 (y, e)))
+-- none of the lines f 0, f 1, .. explains a tile that is not good: along those that it has the sums disagree
+unfoldable pub none : (p l : ℕ) → Slope p l → (f : ℕ → Line) → ((k : ℕ) → number (f k) ≡ k) → (x : List ℕ)
+    → Test ((Good p l x → ⊥) → (k : ℕ) → Unexplained p l x (f k))
+none p l S f numbered x =
+    so (below (λ k. Agree p l (sumOf p x 1) (sumOf p x l) (f k) → ⊥) (p - 1) (λ k.
+    let A : ℕ → ℕ = λ i. sumOf p x 1 (through p 1 (f k) i) in
+    let B : ℕ → ℕ = λ i. sumOf p x l (through p l (f k) i) in
+    refuted (equals A B p .pass) (equals-pass A B p)))
+    (λ t bad k y e. let has = explains-has p l (f k) x y bad e in t k (omega (arith, has, numbered k)) (explained p l (f k) x S has .0 (y, e)))
 
 -- no line at all does
-unfoldable pub no-line : (x : List ℕ) → Test ((Good 5 2 x → ⊥) → (a : Line) → Unexplained 5 2 x a)
-no-line x = so (both (none Column (λ k. refl) x) (none Row (λ k. refl) x)) (λ t bad. each-line (Unexplained 5 2 x) (t .0 bad) (t .1 bad))
+unfoldable pub no-line : (p l : ℕ) → Slope p l → (x : List ℕ) → Test ((Good p l x → ⊥) → None (ByLine p l x))
+no-line p l S x = so (both (none p l S Column (λ k. refl) x) (none p l S Row (λ k. refl) x)) (λ t bad y e.
+    each-line (Unexplained p l x) (t .0 bad) (t .1 bad) (e .line) y (e .explains))
 
--- a row with a column has no filling: the sums through the crossing are not equal
-unfoldable pub uncrossed : (s t : ℕ) (x : List ℕ) → Test (s < 4 → t < 4 → (y : List ℕ) → Fills 5 2 (Column t) (Row s) x y → ⊥)
-uncrossed s t x =
-    let A : ℕ = sumOf x 1 (line 5 1 s t) in
-    let B : ℕ = sumOf x 2 (line 5 2 s t) in
-    so (refuted (eqb A B) (equal-passes A B)) (λ d hs ht y f. d (crossing-agrees 5 2 s t x y slope-5-2 hs ht f))
+-- a row with a column has no filling: the sums through the crossing are not equal; or those through the class of some offset do not add up
+-- to 0, where n is the order of l
+unfoldable pub uncrossed : (p l n : ℕ) → Slope p l → Order p l n → (s t o : ℕ) (x : List ℕ) → Test (s < p - 1 → t < p - 1 → None (Fills p l (Column t) (Row s) x))
+uncrossed p l n S O s t zero x =
+    let A : ℕ = sumOf p x 1 (line p 1 s t) in
+    let B : ℕ = sumOf p x l (line p l s t) in
+    so (refuted (eqb A B) (equal-passes A B)) (λ d hs ht. crossed-none p l x S s t hs ht n O (λ c. d (c .crossing)))
+uncrossed p l n S O s t (suc o) x =
+    let sum : ℕ = classSum p l n (sumOf p x 1) (sumOf p x l) s t (suc o) in
+    so (both (at-most (suc (suc o)) p) (refuted (eqb sum 0) (equal-passes sum 0))) (λ d hs ht.
+    crossed-none p l x S s t hs ht n O (λ c. d .1 (c .class (suc o) (omega arith) (d .0))))
 
--- two lines have no filling; only a row with a column is asked about, named in either order
-unfoldable pub no-filling : (a b : Line) (x : List ℕ) → Test (Has 5 a → Has 5 b → (y : List ℕ) → Fills 5 2 a b x y → ⊥)
-no-filling (Column t) (Row s) x = so (uncrossed s t x) (λ f ht hs. f (omega arith) (omega arith))
-no-filling (Row s) (Column t) x =
-    so (uncrossed s t x) (λ f hs ht y g. f (omega arith) (omega arith) y (fills-either 5 2 (Row s) (Column t) x y g))
-no-filling (Row r) (Row s) x = never
-no-filling (Column c) (Column d) x = never
+-- two lines have no filling, as the offset o shows; only a row with a column is asked about, named in either order
+unfoldable pub no-filling : (p l n : ℕ) → Slope p l → Order p l n → (o : ℕ) (a b : Line) (x : List ℕ) → Test (Has p a → Has p b → None (Fills p l a b x))
+no-filling p l n S O o (Column t) (Row s) x = so (uncrossed p l n S O s t o x) (λ f ht hs. f (omega arith) (omega arith))
+no-filling p l n S O o (Row s) (Column t) x =
+    so (uncrossed p l n S O s t o x) (λ f hs ht y g. f (omega arith) (omega arith) y (fills-either p l (Row s) (Column t) x y g))
+no-filling p l n S O o (Row r) (Row s) x = never
+no-filling p l n S O o (Column c) (Column d) x = never

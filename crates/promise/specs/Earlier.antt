@@ -1,33 +1,37 @@
 -- WHAT AN EARLIER REPORT SAID. Before version 0.3.0 repair took the first column that explains a tile, and a row only where no column does,
--- so that a lone byte was told as its column. Here that rule stands for those who have such reports; no call follows it any more. Each
--- answer of today stands for one of that rule, with the same bytes, and each of that rule for one of today's. Assumes nothing.
+-- so that a lone byte was told as its column. Here that rule stands for those who have such reports; no call follows it any more. There were
+-- new tiles alone. Each answer of today stands for one of that rule, with the same bytes, and each of that rule for one of today's. Assumes
+-- nothing.
 use mathlib.Core.Path.{_≡_, refl, sym, ap, _∙_}
-use mathlib.Core.Logic.{inr}
 use mathlib.Core.List.{List}
 use Prim.Native.Nat.{ℕ, _<_}
 use native.Mathlib.Decide.{ℕ-discrete}
 use native.Mathlib.Omega.{arith}
 use Rattle.code.specs.Tile.{cell, Good, On, Differ}
 use Rattle.code.specs.Differ.{differ-on}
+use Rattle.code.specs.Count.{Only, once-only, once-several}
+use Rattle.code.specs.declared.Kind.the-variants.{New}
 use Rattle.code.specs.declared.Line.{Line}
 use Rattle.code.specs.declared.Line.the-variants.{Row, Column}
 use Rattle.size.specs.Answer as size
 use Rattle.promise.specs.Answer.{Said, done, clean, column, row, refused}
-use Rattle.promise.specs.Calls.{Admitted, TileLength, Explains, Unexplained, MoreBytes, Named, by-cell, by-column, by-row, RepairTold}
+use Rattle.promise.specs.Calls.{Admitted, TileLength, Looked, Explains, ByLine, MoreBytes, Named, by-cell, by-column, by-row, RepairTold}
 use Rattle.promise.specs.Admit.{admitted-well, slope-of}
 use Rattle.promise.specs.Name.{lineSaid, more-on}
-use Rattle.promise.specs.Explain.{unexplained-hurt, explains-on, explains-once, explains-named, named-hurt}
+use Rattle.promise.specs.Explain.{Unexplained, unexplained-hurt, explains-on, explains-named}
+use Rattle.promise.specs.Doubt.{reach-once}
 use Rattle.promise.specs.Once.{repair-told-once}
+use Rattle.promise.specs.Promise.{repairs}
 
 -- the earlier rule: the first column that explains a tile that is not good; where no column does, the first row; else 5
 pub data ToldEarlier (p l : ℕ) (tile : List ℕ) : Said → List ℕ → Type 0 where
-  refuses : {n : ℕ} → Admitted p l (TileLength p tile) (size.refused n) → ToldEarlier p l tile (refused n) tile
-  is-good : Admitted p l (TileLength p tile) size.well → Good p l tile → ToldEarlier p l tile clean tile
-  first-column : {c : ℕ} {new : List ℕ} → Admitted p l (TileLength p tile) size.well → (Good p l tile → ⊥)
+  refuses : {n : ℕ} → Admitted New p l (TileLength p tile) (size.refused n) → ToldEarlier p l tile (refused n) tile
+  is-good : Admitted New p l (TileLength p tile) size.well → Good p l tile → ToldEarlier p l tile clean tile
+  first-column : {c : ℕ} {new : List ℕ} → Admitted New p l (TileLength p tile) size.well → (Good p l tile → ⊥)
       → Explains p l (Column c) tile new → ((k : ℕ) → k < c → Unexplained p l tile (Column k)) → ToldEarlier p l tile (column c) new
-  first-row : {r : ℕ} {new : List ℕ} → Admitted p l (TileLength p tile) size.well → ((k : ℕ) → Unexplained p l tile (Column k))
+  first-row : {r : ℕ} {new : List ℕ} → Admitted New p l (TileLength p tile) size.well → ((k : ℕ) → Unexplained p l tile (Column k))
       → Explains p l (Row r) tile new → ((k : ℕ) → k < r → Unexplained p l tile (Row k)) → ToldEarlier p l tile (row r) new
-  by-none : Admitted p l (TileLength p tile) size.well → ((a : Line) → Unexplained p l tile a) → ToldEarlier p l tile (refused 5) tile
+  by-none : Admitted New p l (TileLength p tile) size.well → ((a : Line) → Unexplained p l tile a) → ToldEarlier p l tile (refused 5) tile
 
 -- what was said in its place: of a cell its column, and of anything else the same
 abbrev pub earlier : Said → Said
@@ -39,14 +43,12 @@ earlier (row r) = row r
 earlier (refused n) = refused n
 
 module _ (p l : ℕ) (tile : List ℕ) where
-  -- of a tile that is explained by new ..
-  module _ {a : Line} {new : List ℕ} (h : Admitted p l (TileLength p tile) size.well) (e : Explains p l a tile new) where
+  -- of a tile that is explained by new alone ..
+  module _ {new : List ℕ} (o : Only (ByLine p l tile) new) where
     -- .. no line explains it that misses a cell where the two differ: by that line too it would be new
     missed : (b : Line) (i j : ℕ) → Differ p tile new i j → (On b i j → ⊥) → Unexplained p l tile b
     missed b i j d off y f =
-        let w = admitted-well h in
-        let q : y ≡ new = explains-once p l b a tile y new (slope-of h) (inr (w .1 .reach)) f e in
-        d .bytes (f .same i j (d .row) (d .column) off ∙ ap (λ (z : List ℕ). cell p z i j) q)
+        d .bytes (f .same i j (d .row) (d .column) off ∙ ap (λ (z : List ℕ). cell p z i j) (o .only y (record { line = b; explains = f })))
 
     -- .. and where two bytes of a row differ no column does
     no-column : {r : ℕ} → MoreBytes p tile new (Row r) → (k : ℕ) → Unexplained p l tile (Column k)
@@ -57,27 +59,35 @@ module _ (p l : ℕ) (tile : List ℕ) where
         go (yes q) (no d) = missed (Column k) (m .r) (m .k) (m .other) d
         go (yes q) (yes o) = absurd (m .apart (m .within _ _ (m .one) ∙ sym (m .within _ _ (m .other)), q ∙ sym o))
 
+    -- a line that holds all that differs explains it
+    held : (b : Line) → ((i j : ℕ) → Differ p tile new i j → On b i j) → Explains p l b tile new
+    held b = explains-on p l (o .is .line) b tile new (o .is .explains)
+
   -- each answer stands for one of the earlier rule, and the bytes are the same
-  pub stands-for : {said : Said} {new : List ℕ} → RepairTold p l tile said new → ToldEarlier p l tile (earlier said) new
+  pub stands-for : {said : Said} {new : List ℕ} → RepairTold New p l tile said new → ToldEarlier p l tile (earlier said) new
   stands-for (RepairTold.refuses h) = refuses h
   stands-for (RepairTold.is-good h g) = is-good h g
-  stands-for (RepairTold.by-none h f) = by-none h f
-  stands-for (RepairTold.mends {a} {new} h e (by-cell {i} {j} o)) =
-      first-column h (named-hurt p l a tile new (slope-of h) (admitted-well h .2) e (by-cell o)) (explains-on p l a (Column j) tile new e (λ r k d. o .alone r k d .1))
-      (λ k q. missed h e (Column k) i j (o .here) (omega arith))
-  stands-for (RepairTold.mends {a} {new} h e (by-column {c} m)) =
-      first-column h (named-hurt p l a tile new (slope-of h) (admitted-well h .2) e (by-column m)) (explains-on p l a (Column c) tile new e (m .within))
-      (λ k q. missed h e (Column k) (m .i) (m .j) (m .one) (omega (arith, m .within _ _ (m .one))))
-  stands-for (RepairTold.mends {a} {new} h e (by-row {r} m)) =
-      first-row h (no-column h e m) (explains-on p l a (Row r) tile new e (m .within)) (λ k q. missed h e (Row k) (m .i) (m .j) (m .one) (omega (arith, m .within _ _ (m .one))))
+  stands-for (RepairTold.is-hurt h bad (Looked.none f)) = by-none h (λ a y e. f y (record { line = a; explains = e }))
+  stands-for (RepairTold.is-hurt h bad (Looked.several d)) = absurd (once-several (reach-once p l tile (slope-of h) (admitted-well h .1 .reach)) d)
+  stands-for (RepairTold.is-hurt h bad (Looked.one o (by-cell {i} {j} b))) =
+      first-column h bad (held o (Column j) (λ r k d. b .alone r k d .1)) (λ k q. missed o (Column k) i j (b .here) (omega arith))
+  stands-for (RepairTold.is-hurt h bad (Looked.one o (by-column {c} m))) =
+      first-column h bad (held o (Column c) (m .within)) (λ k q. missed o (Column k) (m .i) (m .j) (m .one) (omega (arith, m .within _ _ (m .one))))
+  stands-for (RepairTold.is-hurt h bad (Looked.one o (by-row {r} m))) =
+      first-row h (no-column o m) (held o (Row r) (m .within)) (λ k q. missed o (Row k) (m .i) (m .j) (m .one) (omega (arith, m .within _ _ (m .one))))
+
+  -- by whatever a line explains a new tile, it is the only one
+  mends : {a : Line} {said : Said} {new : List ℕ} → Admitted New p l (TileLength p tile) size.well → Explains p l a tile new → Named p tile new said
+      → RepairTold New p l tile said new
+  mends {a} h e n = repairs h (Looked.one (once-only (reach-once p l tile (slope-of h) (admitted-well h .1 .reach)) (record { line = a; explains = e })) n)
 
   -- each answer of the earlier rule is one of today's
-  pub stood-for : {said : Said} {new : List ℕ} → ToldEarlier p l tile said new → (now : Said) × RepairTold p l tile now new × (earlier now ≡ said)
+  pub stood-for : {said : Said} {new : List ℕ} → ToldEarlier p l tile said new → (now : Said) × RepairTold New p l tile now new × (earlier now ≡ said)
   stood-for (refuses {n} h) = (refused n, RepairTold.refuses h, refl)
   stood-for (is-good h g) = (clean, RepairTold.is-good h g, refl)
-  stood-for (by-none h f) = (refused 5, RepairTold.by-none h f, refl)
+  stood-for (by-none h f) = (refused 5, repairs h (Looked.none (λ y t. f (t .line) y (t .explains))), refl)
   stood-for (first-column {c} {new} h bad e first) =
-      let n = explains-named p l (Column c) tile new bad e in (n .0, RepairTold.mends h e (n .1), go (n .1))
+      let n = explains-named p l (Column c) tile new bad e in (n .0, mends h e (n .1), go (n .1))
     where
       on : (i j : ℕ) → Differ p tile new i j → On (Column c) i j
       on = differ-on p (Column c) tile new .0 (e .same)
@@ -88,7 +98,7 @@ module _ (p l : ℕ) (tile : List ℕ) where
       go (by-row m) = ap lineSaid (more-on (Column c) m on)
   stood-for (first-row {r} {new} h none e first) =
       let n = explains-named p l (Row r) tile new (unexplained-hurt p l (Column 0) tile (admitted-well h .2) (none 0)) e in
-      (n .0, RepairTold.mends h e (n .1), go (n .1))
+      (n .0, mends h e (n .1), go (n .1))
     where
       on : (i j : ℕ) → Differ p tile new i j → On (Row r) i j
       on = differ-on p (Row r) tile new .0 (e .same)
@@ -99,9 +109,9 @@ module _ (p l : ℕ) (tile : List ℕ) where
       go (by-row m) = ap lineSaid (more-on (Row r) m on)
 
   -- so of one tile the earlier report said what today's answer stands for, and the bytes are the same
-  pub earlier-report : {said was : Said} {new old : List ℕ} → RepairTold p l tile said new → ToldEarlier p l tile was old
+  pub earlier-report : {said was : Said} {new old : List ℕ} → RepairTold New p l tile said new → ToldEarlier p l tile was old
       → (was ≡ earlier said) × (old ≡ new)
   earlier-report {said} {was} {new} {old} told report =
       let s = stood-for report in
-      let q = repair-told-once p l tile (s .0) said old new (s .1) told in
+      let q = repair-told-once New p l tile (s .0) said old new (s .1) told in
       (sym (s .2) ∙ ap earlier (q .0), q .1)

@@ -18,8 +18,12 @@ use Rattle.code.specs.Filling.{line-agrees, line-filled}
 use Rattle.code.specs.declared.Line.{Line}
 use Rattle.code.specs.declared.Line.the-variants.{Row, Column}
 use Rattle.promise.specs.Answer.{Said}
-use Rattle.promise.specs.Calls.{Explains, Unexplained, Named, Has}
+use Rattle.promise.specs.Calls.{Explains, Named, Has}
 use Rattle.promise.specs.Name.{named-differ, has-name}
+
+-- the line a does not explain x, by any tile
+abbrev pub Unexplained : ℕ → ℕ → List ℕ → Line → Type 0
+Unexplained p l x a = (y : List ℕ) → Explains p l a x y → ⊥
 
 -- to explain a tile by a line is to fill that line, named twice
 pub explains-fills : (p l : ℕ) (a : Line) (x y : List ℕ) → Explains p l a x y ↔ Fills p l a a x y
@@ -41,7 +45,7 @@ pub explains-on : (p l : ℕ) (a b : Line) (x y : List ℕ) → Explains p l a x
 explains-on p l a b x y e on = record { size = e .size; good = e .good; same = differ-on p b x y .1 on }
 
 -- a line is parallel to itself
-parallel-self : (a : Line) → Parallel a a
+pub parallel-self : (a : Line) → Parallel a a
 parallel-self (Row r) = tt
 parallel-self (Column c) = tt
 

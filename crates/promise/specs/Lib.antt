@@ -4,10 +4,13 @@ pub mod Calls
 pub mod Admit
 pub mod Name
 pub mod Explain
+pub mod Doubt
 pub mod Once
-pub mod Earlier
 pub mod Promise
 pub mod Carry
+pub mod Kinds
+pub mod Earlier
 pub mod Decide
 pub mod Worked
+pub mod WorkedOld
 pub mod Shams

@@ -6,7 +6,7 @@ use mathlib.Core.List.{List}
 use Prim.Native.Nat.{ℕ, _+_, _-_, _≤_, _<_}
 use native.Mathlib.Decide.{ℕ-discrete}
 use native.Mathlib.Omega.{arith}
-use Rattle.residue.specs.Test.{some-or-none}
+use Rattle.residue.specs.Search.{some-or-none}
 use Rattle.code.specs.Tile.{On, EqualOutside, Differ}
 use Rattle.code.specs.OneLine.{rowAt, columnAt}
 use Rattle.code.specs.Differ.{differ-or-not, differ-on, index, on-index, differ-nth, nth-in, nth-apart, two-cells}

@@ -1,26 +1,24 @@
 -- The contracts settle the answers and the bytes: two outcomes that are allowed for the same input are the same. Assumes nothing.
 use mathlib.Core.Path.{_≡_, refl, sym, ap, _∙_}
-use mathlib.Core.Logic.{inr}
 use mathlib.Core.List.{List}
 use Prim.Native.Nat.{ℕ}
-use Rattle.residue.specs.Power.{ReachesAll}
-use Rattle.residue.specs.Size.{Size, Allowed}
-use Rattle.code.specs.Slope.{Slope, allowed-slope}
+use Rattle.residue.specs.Size.{Size}
+use Rattle.code.specs.Slope.{Slope}
+use Rattle.code.specs.Kind.{Takes, taken-slope}
 use Rattle.code.specs.Tile.{tileLength, Good, textOf, Writes, Fills}
-use Rattle.code.specs.Filling.{filled-once}
+use Rattle.code.specs.Count.{none-several, only-several, only-once}
 use Rattle.code.specs.Writing.{written-once}
+use Rattle.code.specs.declared.Kind.{Kind}
 use Rattle.code.specs.declared.Line.{Line}
-use Rattle.code.specs.declared.Line.the-variants.{Column}
 use Rattle.size.specs.Answer as size
 use Rattle.size.specs.Answer.{judgementSaid}
 use Rattle.size.specs.Refusal.{numberOf}
 use Rattle.size.specs.Once.{refusalOf, back, number-once, judgement-said-once}
 use Rattle.size.specs.declared.Judgement.{Judgement}
 use Rattle.promise.specs.Answer.{Said, done, clean, cell, column, row, refused, outcomeSaid, repairSaid}
-use Rattle.promise.specs.Calls.{Admitted, TileLength, BothLengths, WriteTold, ReadTold, Explains, Named, RepairTold, Has, FillTold}
-use Rattle.promise.specs.Admit.{admitted-well, admitted-no, admitted-once, slope-of}
+use Rattle.promise.specs.Calls.{Admitted, TileLength, BothLengths, WriteTold, ReadTold, Looked, ByLine, Named, RepairTold, Has, Done, FillTold}
+use Rattle.promise.specs.Admit.{admitted-well, admitted-no, admitted-once}
 use Rattle.promise.specs.Name.{named-once}
-use Rattle.promise.specs.Explain.{unexplained-hurt, explains-once, named-hurt}
 use Rattle.promise.specs.declared.Outcome.{Outcome}
 use Rattle.promise.specs.declared.Outcome.the-variants as outcome
 use Rattle.promise.specs.declared.Repaired.{Repaired}
@@ -60,118 +58,110 @@ else-single f g a b x y (holds h r) (fails k s) = absurd (k h)
 else-single f g a b x y (fails h r) (holds k s) = absurd (h k)
 else-single f g a b x y (fails h r) (fails k s) = g a b x y r s
 
+-- what comes of looking at all good tiles that have F is one outcome, if a tile has one name: there is none, exactly one, or several
+looked-single : {F : List ℕ → Type 0} {Name : List ℕ → Said → Type 0} {lent : List ℕ} → ((y : List ℕ) (s t : Said) → Name y s → Name y t → s ≡ t)
+    → Single (Looked F Name lent)
+looked-single named a b x y (Looked.one o n) (Looked.one q m) = let e : x ≡ y = only-once o q in (named y a b (rw e at n) m, e)
+looked-single named a b x y (Looked.one {new} o n) (Looked.none f) = absurd (f new (o .is))
+looked-single named a b x y (Looked.one o n) (Looked.several d) = absurd (only-several o d)
+looked-single named a b x y (Looked.none f) (Looked.one {new} o n) = absurd (f new (o .is))
+looked-single named a b x y (Looked.none f) (Looked.none g) = (refl, refl)
+looked-single named a b x y (Looked.none f) (Looked.several d) = absurd (none-several f d)
+looked-single named a b x y (Looked.several d) (Looked.one o n) = absurd (only-several o d)
+looked-single named a b x y (Looked.several d) (Looked.none f) = absurd (none-several f d)
+looked-single named a b x y (Looked.several d) (Looked.several e) = (refl, refl)
+
 -- a call that is not admitted: the number that refuses it, and the lent bytes as they were ..
-data NotAdmitted (p l : ℕ) (Lengths : Type 0) (lent : List ℕ) : Said → List ℕ → Type 0 where
-  not-admitted : {n : ℕ} → Admitted p l Lengths (size.refused n) → NotAdmitted p l Lengths lent (refused n) lent
+data NotAdmitted (k : Kind) (p l : ℕ) (Lengths : Type 0) (lent : List ℕ) : Said → List ℕ → Type 0 where
+  not-admitted : {n : ℕ} → Admitted k p l Lengths (size.refused n) → NotAdmitted k p l Lengths lent (refused n) lent
 
 -- .. is one outcome, as one number refuses it
-not-admitted-single : (p l : ℕ) (Lengths : Type 0) (lent : List ℕ) → Single (NotAdmitted p l Lengths lent)
-not-admitted-single p l Lengths lent a b x y (not-admitted {n} h) (not-admitted {n = m} k) =
-    let e : size.refused n ≡ size.refused m = admitted-once p l Lengths (size.refused n) (size.refused m) h k in (cc, refl)
+not-admitted-single : (k : Kind) (p l : ℕ) (Lengths : Type 0) (lent : List ℕ) → Single (NotAdmitted k p l Lengths lent)
+not-admitted-single k p l Lengths lent a b x y (not-admitted {n} h) (not-admitted {n = m} i) =
+    let e : size.refused n ≡ size.refused m = admitted-once k p l Lengths (size.refused n) (size.refused m) h i in (cc, refl)
 
 -- every call: its own outcomes where size, slope and lengths are right, and else a refusal
-abbrev Call : ℕ → ℕ → Type 0 → List ℕ → (Said → List ℕ → Type 0) → Said → List ℕ → Type 0
-Call p l Lengths lent Own = Else (Size p × Allowed p l × Lengths) Own (NotAdmitted p l Lengths lent)
+abbrev Call : Kind → ℕ → ℕ → Type 0 → List ℕ → (Said → List ℕ → Type 0) → Said → List ℕ → Type 0
+Call k p l Lengths lent Own = Else (Size p × Takes k p l × Lengths) Own (NotAdmitted k p l Lengths lent)
 
-module _ {p l : ℕ} {Lengths : Type 0} {lent : List ℕ} {Own : Said → List ℕ → Type 0} where
+module _ {k : Kind} {p l : ℕ} {Lengths : Type 0} {lent : List ℕ} {Own : Said → List ℕ → Type 0} where
   -- a call refuses, or goes on, as it is admitted
-  refuses : {n : ℕ} → Admitted p l Lengths (size.refused n) → Call p l Lengths lent Own (refused n) lent
+  refuses : {n : ℕ} → Admitted k p l Lengths (size.refused n) → Call k p l Lengths lent Own (refused n) lent
   refuses h = fails (admitted-no h) (not-admitted h)
 
-  goes-on : {a : Said} {x : List ℕ} → Admitted p l Lengths size.well → Own a x → Call p l Lengths lent Own a x
+  goes-on : {a : Said} {x : List ℕ} → Admitted k p l Lengths size.well → Own a x → Call k p l Lengths lent Own a x
   goes-on h r = holds (admitted-well h) r
 
   -- where its own outcomes are one, a call allows one outcome
-  call-once : {a b : Said} {x y : List ℕ} → Call p l Lengths lent Own a x → Call p l Lengths lent Own b y
-      → (Slope p l → Allowed p l → Single Own) → (a ≡ b) × (x ≡ y)
+  call-once : {a b : Said} {x y : List ℕ} → Call k p l Lengths lent Own a x → Call k p l Lengths lent Own b y
+      → (Slope p l → Single Own) → (a ≡ b) × (x ≡ y)
   call-once {a} {b} {x} {y} t u f =
-      else-single (λ h. f (allowed-slope p l (h .0) (h .1)) (h .1)) (not-admitted-single p l Lengths lent) a b x y t u
+      else-single (λ h. f (taken-slope k p l (h .0) (h .1))) (not-admitted-single k p l Lengths lent) a b x y t u
 
 -- ---- each call
 
 -- write: the good tile that has the text
-module _ (p l : ℕ) (text tile : List ℕ) where
+module _ (k : Kind) (p l : ℕ) (text tile : List ℕ) where
   -- a write, as such a call
-  write-call : {a : Said} {x : List ℕ} → WriteTold p l text tile a x → Call p l (BothLengths p tile text) tile (Only done (Writes p l text)) a x
+  write-call : {a : Said} {x : List ℕ} → WriteTold k p l text tile a x → Call k p l (BothLengths p tile text) tile (Only done (Writes p l text)) a x
   write-call (WriteTold.refuses h) = refuses h
   write-call (WriteTold.writes h w) = goes-on h (refl, w)
 
   -- so two outcomes of a write are the same: one good tile has the text
-  pub write-told-once : (a b : Said) (x y : List ℕ) → WriteTold p l text tile a x → WriteTold p l text tile b y → (a ≡ b) × (x ≡ y)
+  pub write-told-once : (a b : Said) (x y : List ℕ) → WriteTold k p l text tile a x → WriteTold k p l text tile b y → (a ≡ b) × (x ≡ y)
   write-told-once a b x y t u =
-      call-once (write-call t) (write-call u) (λ S w. only-single done (Writes p l text) (λ v z. written-once p l text v z S))
+      call-once (write-call t) (write-call u) (λ S. only-single done (Writes p l text) (λ v z. written-once p l text v z S))
 
 -- read: where the tile is good its text, and else 5
-module _ (p l : ℕ) (tile text : List ℕ) where
+module _ (k : Kind) (p l : ℕ) (tile text : List ℕ) where
   -- its own outcomes
   abbrev ReadOwn : Said → List ℕ → Type 0
   ReadOwn = Else (Good p l tile) (Just done (textOf p tile)) (Just (refused 5) text)
 
   -- a read, as such a call
-  read-call : {a : Said} {x : List ℕ} → ReadTold p l tile text a x → Call p l (BothLengths p tile text) text ReadOwn a x
+  read-call : {a : Said} {x : List ℕ} → ReadTold k p l tile text a x → Call k p l (BothLengths p tile text) text ReadOwn a x
   read-call (ReadTold.refuses h) = refuses h
   read-call (ReadTold.not-good h f) = goes-on h (fails f (refl, refl))
   read-call (ReadTold.reads h g) = goes-on h (holds g (refl, refl))
 
   -- so two outcomes of a read are the same
-  pub read-told-once : (a b : Said) (x y : List ℕ) → ReadTold p l tile text a x → ReadTold p l tile text b y → (a ≡ b) × (x ≡ y)
+  pub read-told-once : (a b : Said) (x y : List ℕ) → ReadTold k p l tile text a x → ReadTold k p l tile text b y → (a ≡ b) × (x ≡ y)
   read-told-once a b x y t u =
-      call-once (read-call t) (read-call u) (λ S w. else-single (λ g. just-single done (textOf p tile)) (just-single (refused 5) text))
+      call-once (read-call t) (read-call u) (λ S. else-single (λ g. just-single done (textOf p tile)) (just-single (refused 5) text))
 
--- repair: of a good tile Clean; of one that some line explains the name of the difference; else 5
-module _ (p l : ℕ) (tile : List ℕ) where
-  -- some line explains it
-  abbrev Explained : Type 0
-  Explained = (a : Line) × (y : List ℕ) × Explains p l a tile y
-
-  -- the good tile by which one does, and the name of the difference ..
-  data Mended : Said → List ℕ → Type 0 where
-    mended : {a : Line} {s : Said} {y : List ℕ} → Explains p l a tile y → Named p tile y s → Mended s y
-
-  -- .. are one outcome: by the distance there is one such tile, and a difference has one name
-  mended-single : Slope p l → ReachesAll p l → Single Mended
-  mended-single S all s t x y (mended {a} e n) (mended {a = b} f m) =
-      let q : x ≡ y = explains-once p l a b tile x y S (inr all) e f in (named-once (rw q at n) m, q)
-
+-- repair: of a good tile Clean, and else what comes of looking at those that explain it
+module _ (k : Kind) (p l : ℕ) (tile : List ℕ) where
   -- its own outcomes
   abbrev RepairOwn : Said → List ℕ → Type 0
-  RepairOwn = Else (Good p l tile) (Just clean tile) (Else Explained Mended (Just (refused 5) tile))
+  RepairOwn = Else (Good p l tile) (Just clean tile) (Looked (ByLine p l tile) (Named p tile) tile)
 
   -- a repair, as such a call
-  repair-call : {a : Said} {x : List ℕ} → RepairTold p l tile a x → Call p l (TileLength p tile) tile RepairOwn a x
+  repair-call : {a : Said} {x : List ℕ} → RepairTold k p l tile a x → Call k p l (TileLength p tile) tile RepairOwn a x
   repair-call (RepairTold.refuses h) = refuses h
   repair-call (RepairTold.is-good h g) = goes-on h (holds g (refl, refl))
-  repair-call (RepairTold.mends {a} {new} h e n) =
-      goes-on h (fails (named-hurt p l a tile new (slope-of h) (admitted-well h .2) e n) (holds (a, new, e) (mended e n)))
-  repair-call (RepairTold.by-none h f) =
-      goes-on h (fails (unexplained-hurt p l (Column 0) tile (admitted-well h .2) (f (Column 0))) (fails (λ t. f (t .0) (t .1) (t .2)) (refl, refl)))
+  repair-call (RepairTold.is-hurt h bad q) = goes-on h (fails bad q)
 
-  -- so two outcomes of a repair are the same
-  pub repair-told-once : (a b : Said) (x y : List ℕ) → RepairTold p l tile a x → RepairTold p l tile b y → (a ≡ b) × (x ≡ y)
-  repair-told-once a b x y t u = call-once (repair-call t) (repair-call u) (λ S w.
-      else-single (λ g. just-single clean tile) (else-single (λ e. mended-single S (w .reach)) (just-single (refused 5) tile)))
+  -- so two outcomes of a repair are the same: a difference has one name
+  pub repair-told-once : (a b : Said) (x y : List ℕ) → RepairTold k p l tile a x → RepairTold k p l tile b y → (a ≡ b) × (x ≡ y)
+  repair-told-once a b x y t u =
+      call-once (repair-call t) (repair-call u) (λ S. else-single (λ g. just-single clean tile) (looked-single (λ z s t. named-once)))
 
--- fill: 4 where the tile lacks a line, and else the filling, or 5
-module _ (p l : ℕ) (tile : List ℕ) (a b : Line) where
+-- fill: 4 where the tile lacks a line, and else what comes of looking at its fillings
+module _ (k : Kind) (p l : ℕ) (tile : List ℕ) (a b : Line) where
   -- its own outcomes
   abbrev FillOwn : Said → List ℕ → Type 0
-  FillOwn =
-      Else (Has p a × Has p b)
-      (Else ((y : List ℕ) × Fills p l a b tile y) (Only done (Fills p l a b tile)) (Just (refused 5) tile)) (Just (refused 4) tile)
+  FillOwn = Else (Has p a × Has p b) (Looked (Fills p l a b tile) Done tile) (Just (refused 4) tile)
 
   -- a filling, as such a call
-  fill-call : {c : Said} {x : List ℕ} → FillTold p l tile a b c x → Call p l (TileLength p tile) tile FillOwn c x
+  fill-call : {c : Said} {x : List ℕ} → FillTold k p l tile a b c x → Call k p l (TileLength p tile) tile FillOwn c x
   fill-call (FillTold.refuses h) = refuses h
   fill-call (FillTold.no-line h f) = goes-on h (fails f (refl, refl))
-  fill-call (FillTold.none h ha hb f) = goes-on h (holds (ha, hb) (fails (λ t. f (t .0) (t .1)) (refl, refl)))
-  fill-call (FillTold.fills {new} h ha hb f) = goes-on h (holds (ha, hb) (holds (new, f) (refl, f)))
+  fill-call (FillTold.has-lines h ha hb q) = goes-on h (holds (ha, hb) q)
 
-  -- so two outcomes of a filling are the same: there is one filling at most
-  pub fill-told-once : (c d : Said) (x y : List ℕ) → FillTold p l tile a b c x → FillTold p l tile a b d y → (c ≡ d) × (x ≡ y)
-  fill-told-once c d x y t u = call-once (fill-call t) (fill-call u) (λ S w.
-      else-single (λ h. else-single
-      (λ e. only-single done (Fills p l a b tile) (λ v z. filled-once p l a b tile v z S (inr (w .reach))))
-      (just-single (refused 5) tile)) (just-single (refused 4) tile))
+  -- so two outcomes of a filling are the same
+  pub fill-told-once : (c d : Said) (x y : List ℕ) → FillTold k p l tile a b c x → FillTold k p l tile a b d y → (c ≡ d) × (x ≡ y)
+  fill-told-once c d x y t u =
+      call-once (fill-call t) (fill-call u) (λ S. else-single (λ h. looked-single (λ z s t e f. e ∙ sym f)) (just-single (refused 4) tile))
 
 -- ---- the same of the enums that the calls answer
 
@@ -206,27 +196,27 @@ outcome-single : (R : Said → List ℕ → Type 0) → Single R → (a b : Outc
     → (a ≡ b) × (x ≡ y)
 outcome-single R f a b x y t u = let e = f (outcomeSaid a) (outcomeSaid b) x y t u in (outcome-said-once a b (e .0), e .1)
 
--- a judgement of a size, a slope and a length has one right answer
-pub judge-tile-once : (p l cells : ℕ) (a b : Judgement) → Admitted p l (cells ≡ tileLength p) (judgementSaid a) → Admitted p l (cells ≡ tileLength p) (judgementSaid b) → a ≡ b
-judge-tile-once p l cells a b t u = judgement-said-once a b (admitted-once p l (cells ≡ tileLength p) (judgementSaid a) (judgementSaid b) t u)
+-- a judgement of a kind, a size, a slope and a length has one right answer
+pub judge-tile-once : (k : Kind) (p l cells : ℕ) (a b : Judgement) → Admitted k p l (cells ≡ tileLength p) (judgementSaid a) → Admitted k p l (cells ≡ tileLength p) (judgementSaid b) → a ≡ b
+judge-tile-once k p l cells a b t u = judgement-said-once a b (admitted-once k p l (cells ≡ tileLength p) (judgementSaid a) (judgementSaid b) t u)
 
 -- a write has one right answer, and leaves one tile
-pub write-once : (p l : ℕ) (text tile : List ℕ) (a b : Outcome) (x y : List ℕ)
-    → WriteTold p l text tile (outcomeSaid a) x → WriteTold p l text tile (outcomeSaid b) y → (a ≡ b) × (x ≡ y)
-write-once p l text tile = outcome-single (WriteTold p l text tile) (write-told-once p l text tile)
+pub write-once : (k : Kind) (p l : ℕ) (text tile : List ℕ) (a b : Outcome) (x y : List ℕ)
+    → WriteTold k p l text tile (outcomeSaid a) x → WriteTold k p l text tile (outcomeSaid b) y → (a ≡ b) × (x ≡ y)
+write-once k p l text tile = outcome-single (WriteTold k p l text tile) (write-told-once k p l text tile)
 
 -- a read has one right answer, and leaves one text
-pub read-once : (p l : ℕ) (tile text : List ℕ) (a b : Outcome) (x y : List ℕ)
-    → ReadTold p l tile text (outcomeSaid a) x → ReadTold p l tile text (outcomeSaid b) y → (a ≡ b) × (x ≡ y)
-read-once p l tile text = outcome-single (ReadTold p l tile text) (read-told-once p l tile text)
+pub read-once : (k : Kind) (p l : ℕ) (tile text : List ℕ) (a b : Outcome) (x y : List ℕ)
+    → ReadTold k p l tile text (outcomeSaid a) x → ReadTold k p l tile text (outcomeSaid b) y → (a ≡ b) × (x ≡ y)
+read-once k p l tile text = outcome-single (ReadTold k p l tile text) (read-told-once k p l tile text)
 
 -- a repair has one right answer, and leaves one tile
-pub repair-once : (p l : ℕ) (tile : List ℕ) (a b : Repaired) (x y : List ℕ)
-    → RepairTold p l tile (repairSaid a) x → RepairTold p l tile (repairSaid b) y → (a ≡ b) × (x ≡ y)
-repair-once p l tile a b x y t u =
-    let e = repair-told-once p l tile (repairSaid a) (repairSaid b) x y t u in (repair-said-once a b (e .0), e .1)
+pub repair-once : (k : Kind) (p l : ℕ) (tile : List ℕ) (a b : Repaired) (x y : List ℕ)
+    → RepairTold k p l tile (repairSaid a) x → RepairTold k p l tile (repairSaid b) y → (a ≡ b) × (x ≡ y)
+repair-once k p l tile a b x y t u =
+    let e = repair-told-once k p l tile (repairSaid a) (repairSaid b) x y t u in (repair-said-once a b (e .0), e .1)
 
 -- a filling of flagged lines has one right answer, and leaves one tile
-pub fill-once : (p l : ℕ) (tile : List ℕ) (a b : Line) (c d : Outcome) (x y : List ℕ)
-    → FillTold p l tile a b (outcomeSaid c) x → FillTold p l tile a b (outcomeSaid d) y → (c ≡ d) × (x ≡ y)
-fill-once p l tile a b = outcome-single (FillTold p l tile a b) (fill-told-once p l tile a b)
+pub fill-once : (k : Kind) (p l : ℕ) (tile : List ℕ) (a b : Line) (c d : Outcome) (x y : List ℕ)
+    → FillTold k p l tile a b (outcomeSaid c) x → FillTold k p l tile a b (outcomeSaid d) y → (c ≡ d) × (x ≡ y)
+fill-once k p l tile a b = outcome-single (FillTold k p l tile a b) (fill-told-once k p l tile a b)

@@ -1,26 +1,37 @@
 -- SPEC 10: the worked tiles 1 to 10 in one list, all claimed at once (tile 11, whose sheet stands above this crate, joins them in
--- `sheet/specs/Worked.antt`). The tiles are at p 5, l 2, written row by row; each claim is decided by a test that is computed, and the
--- laws that the test is right. Assumes nothing.
-use mathlib.Core.Path.{_≡_, sym, ap, _∙_}
+-- `sheet/specs/Worked.antt`, and the old tiles 13 to 17 stand in `WorkedOld`). The tiles are at p 5, l 2, written row by row, and every claim
+-- is of both kinds; each is decided by a test that is computed, and the laws that the test is right. Assumes nothing.
+use mathlib.Core.Path.{_≡_, refl, sym, ap, _∙_}
+use mathlib.Core.Logic.{inr}
 use mathlib.Core.List.{List, [], _∷_}
 use Prim.Native.Nat.{ℕ, _+_, _-_}
+use native.Mathlib.Omega.{arith}
 use lib.ListN.{length, getD}
 use Rattle.xor.specs.Xor.{_⊕_}
 use Rattle.xor.specs.Sum.{xorBelow}
 use Rattle.code.specs.Tabulate.{tabulate}
 use Rattle.code.specs.Tile.{tileLength, place, cell, sum, Good, textLength, textFrom, textOf, Writes}
 use Rattle.residue.specs.Test.{upTo}
+use Rattle.residue.specs.Order.{Order}
+use Rattle.code.specs.Slope.{Slope}
+use Rattle.code.specs.Kind.{Takes, taken-slope, allowed-taken}
+use Rattle.code.specs.Count.{Only, once-only}
+use Rattle.code.specs.Fillings.{fills-once}
 use Rattle.code.specs.Place.{text-length}
 use Rattle.code.specs.OneLine.{number}
+use Rattle.code.specs.declared.Kind.{Kind}
+use Rattle.code.specs.declared.Kind.the-variants.{New}
 use Rattle.code.specs.declared.Line.{Line}
 use Rattle.code.specs.declared.Line.the-variants.{Row, Column}
 use Rattle.size.specs.Answer as size
 use Rattle.size.specs.Shams.{size-5, at-5-2}
 use Rattle.promise.specs.Answer.{Said, done, clean, column, row, refused}
-use Rattle.promise.specs.Calls.{Admitted, TileLength, WriteTold, ReadTold, by-cell, by-column, by-row, RepairTold, FillTold}
+use Rattle.promise.specs.Calls.{Admitted, TileLength, WriteTold, ReadTold, Looked, Explains, ByLine, by-cell, by-column, by-row, RepairTold, FillTold}
 use Rattle.promise.specs.Admit.{admits}
+use Rattle.promise.specs.Doubt.{reach-once}
 use Rattle.promise.specs.Once.{Single, write-told-once, read-told-once, repair-told-once, fill-told-once}
-use Rattle.promise.specs.Decide.{Test, never, so, both, some, equal, at-most, same, sumOf, good, common-is, not-good, outside, differing, filling, explaining, more-bytes, one-byte, none, no-line, uncrossed, no-filling, Each, each, numbered}
+use Rattle.promise.specs.Promise as promise
+use Rattle.promise.specs.Decide.{Test, never, so, both, some, equal, at-most, same, sumOf, good, common-is, not-good, outside, differing, filling, explaining, more-bytes, one-byte, none, no-line, uncrossed, no-filling, order-is, Each, each, numbered}
 
 -- ---- the tiles
 
@@ -112,13 +123,15 @@ pub data Case : Type 0 where
 abbrev pub Exactly : {Answer : Type 0} → (Answer → List ℕ → Type 0) → Answer → List ℕ → Type 0
 Exactly {Answer} R s x = R s x × ((t : Answer) (y : List ℕ) → R t y → (t ≡ s) × (y ≡ x))
 
--- what a case claims. A tile is written whatever the lent tile held, and a tile that is not good is refused whatever the lent text held
+-- what a case claims, of either kind. A tile is written whatever the lent tile held, and a tile that is not good is refused whatever the lent
+-- text held
 abbrev pub Claim : Case → Type 0
 Claim (writes text tile b) =
-    ((lent : List ℕ) → length lent ≡ tileLength 5 → Exactly (WriteTold 5 2 text lent) done tile) × ((g : Good 5 2 tile) → g .common ≡ b)
-Claim (spoiled tile) = (Good 5 2 tile → ⊥) × ((page : List ℕ) → length page ≡ textLength 5 → Exactly (ReadTold 5 2 tile page) (refused 5) page)
-Claim (repairs tile said new) = Exactly (RepairTold 5 2 tile) said new
-Claim (fills tile a b said new) = Exactly (FillTold 5 2 tile a b) said new
+    ((k : Kind) (lent : List ℕ) → length lent ≡ tileLength 5 → Exactly (WriteTold k 5 2 text lent) done tile) × ((g : Good 5 2 tile) → g .common ≡ b)
+Claim (spoiled tile) =
+    (Good 5 2 tile → ⊥) × ((k : Kind) (page : List ℕ) → length page ≡ textLength 5 → Exactly (ReadTold k 5 2 tile page) (refused 5) page)
+Claim (repairs tile said new) = (k : Kind) → Exactly (RepairTold k 5 2 tile) said new
+Claim (fills tile a b said new) = (k : Kind) → Exactly (FillTold k 5 2 tile a b) said new
 
 -- tiles 1 to 10
 abbrev pub cases : List Case
@@ -153,55 +166,81 @@ others =
 pub exactly : {Answer : Type 0} (R : Answer → List ℕ → Type 0) → Single R → (s : Answer) (x : List ℕ) → R s x → Exactly R s x
 exactly R once s x r = (r, λ t y q. once t s y x q r)
 
+-- 2 is a slope at 5, which both kinds take, and its fourth power is the first that is 1
+pub taken-5-2 : (k : Kind) → Takes k 5 2
+taken-5-2 k = allowed-taken k 5 2 at-5-2
+
+pub slope-5-2 : Slope 5 2
+slope-5-2 = taken-slope New 5 2 size-5 at-5-2
+
+pub order-5-2 : Order 5 2 4
+unfolding order-is upTo
+order-5-2 = order-is 5 2 4 .shows tt
+
+-- by whatever a line explains a tile, it is the only one
+pub sole : {a : Line} (x y : List ℕ) → Explains 5 2 a x y → Only (ByLine 5 2 x) y
+sole {a} x y e = once-only (reach-once 5 2 x slope-5-2 (at-5-2 .reach)) (record { line = a; explains = e })
+
 -- what repair says and leaves, of a tile that is admitted
-unfoldable pub mends : (x : List ℕ) (s : Said) (y : List ℕ) → Test (Admitted 5 2 (TileLength 5 x) size.well → RepairTold 5 2 x s y)
+abbrev Mends : List ℕ → Said → List ℕ → Type 0
+Mends x s y = (k : Kind) → Admitted k 5 2 (TileLength 5 x) size.well → RepairTold k 5 2 x s y
+
+unfoldable pub mends : (x : List ℕ) (s : Said) (y : List ℕ) → Test (Mends x s y)
 mends x done y = never
-mends x clean y = so (both (same y x) (good x)) (λ t h. rw (t .0) (RepairTold.is-good h (t .1)))
-mends x (Said.cell i j) y = so (both (explaining (Column j) x y) (one-byte x y i j)) (λ t h. RepairTold.mends h (t .0) (by-cell (t .1)))
-mends x (column c) y = so (both (explaining (Column c) x y) (more-bytes (Column c) x y)) (λ t h. RepairTold.mends h (t .0) (by-column (t .1)))
-mends x (row r) y = so (both (explaining (Row r) x y) (more-bytes (Row r) x y)) (λ t h. RepairTold.mends h (t .0) (by-row (t .1)))
+mends x clean y = so (both (same y x) (good 5 2 x)) (λ t k h. rw (t .0) (RepairTold.is-good h (t .1)))
+mends x (Said.cell i j) y =
+    so (both (explaining 5 2 (Column j) x y) (one-byte 5 x y i j)) (λ t k h. promise.repairs h (Looked.one (sole x y (t .0)) (by-cell (t .1))))
+mends x (column c) y =
+    so (both (explaining 5 2 (Column c) x y) (more-bytes 5 (Column c) x y)) (λ t k h. promise.repairs h (Looked.one (sole x y (t .0)) (by-column (t .1))))
+mends x (row r) y =
+    so (both (explaining 5 2 (Row r) x y) (more-bytes 5 (Row r) x y)) (λ t k h. promise.repairs h (Looked.one (sole x y (t .0)) (by-row (t .1))))
 mends x (refused n) y =
-    so (both (equal n 5) (both (same y x) (both (not-good x) (no-line x)))) (λ t h.
-    rw (t .0, t .1 .0) (RepairTold.by-none h (t .1 .1 .1 (t .1 .1 .0))))
+    so (both (equal n 5) (both (same y x) (both (not-good 5 2 x) (no-line 5 2 slope-5-2 x)))) (λ t k h.
+    rw (t .0, t .1 .0) (RepairTold.is-hurt h (t .1 .1 .0) (Looked.none (t .1 .1 .1 (t .1 .1 .0)))))
 
 -- what fill says and leaves, of a tile that is admitted
-unfoldable pub filled : (x : List ℕ) (a b : Line) (s : Said) (y : List ℕ) → Test (Admitted 5 2 (TileLength 5 x) size.well → FillTold 5 2 x a b s y)
+abbrev Filled : List ℕ → Line → Line → Said → List ℕ → Type 0
+Filled x a b s y = (k : Kind) → Admitted k 5 2 (TileLength 5 x) size.well → FillTold k 5 2 x a b s y
+
+unfoldable pub filled : (x : List ℕ) (a b : Line) (s : Said) (y : List ℕ) → Test (Filled x a b s y)
 filled x a b done y =
-    so (both (at-most (number a + 2) 5) (both (at-most (number b + 2) 5) (filling a b x y))) (λ t h. FillTold.fills h (t .0) (t .1 .0) (t .1 .1))
+    so (both (at-most (number a + 2) 5) (both (at-most (number b + 2) 5) (filling 5 2 a b x y))) (λ t k h.
+    FillTold.has-lines h (t .0) (t .1 .0) (Looked.one (once-only (fills-once 5 2 x slope-5-2 a b (inr (at-5-2 .reach))) (t .1 .1)) refl))
 filled x a b (refused n) y =
-    so (both (equal n 5) (both (same y x) (both (at-most (number a + 2) 5) (both (at-most (number b + 2) 5) (no-filling a b x))))) (λ t h.
+    so (both (equal n 5) (both (same y x) (both (at-most (number a + 2) 5) (both (at-most (number b + 2) 5) (no-filling 5 2 4 slope-5-2 order-5-2 0 a b x))))) (λ t k h.
     let lines = t .1 .1 in
-    rw (t .0, t .1 .0) (FillTold.none h (lines .0) (lines .1 .0) (lines .1 .1 (lines .0) (lines .1 .0))))
+    rw (t .0, t .1 .0) (FillTold.has-lines h (lines .0) (lines .1 .0) (Looked.none (lines .1 .1 (lines .0) (lines .1 .0)))))
 filled x a b clean y = never
 filled x a b (Said.cell i j) y = never
 filled x a b (column c) y = never
 filled x a b (row r) y = never
 
 -- a tile is admitted if it has the right length
-unfoldable pub admitted-tile : {A : Type 0} (x : List ℕ) → Test (Admitted 5 2 (TileLength 5 x) size.well → A) → Test A
-admitted-tile x s = so (both (equal (length x) (tileLength 5)) s) (λ t. t .1 (admits size-5 at-5-2 (t .0)))
+unfoldable pub admitted-tile : {A : Kind → Type 0} (x : List ℕ) → Test ((k : Kind) → Admitted k 5 2 (TileLength 5 x) size.well → A k) → Test ((k : Kind) → A k)
+admitted-tile x s = so (both (equal (length x) (tileLength 5)) s) (λ t k. t .1 k (admits size-5 (taken-5-2 k) (t .0)))
 
 -- the tile is good and has the text
 unfoldable pub writing : (text tile : List ℕ) → Test (Writes 5 2 text tile)
 writing text tile =
-    so (both (equal (length tile) (tileLength 5)) (both (good tile) (same (textOf 5 tile) text))) (λ t.
+    so (both (equal (length tile) (tileLength 5)) (both (good 5 2 tile) (same (textOf 5 tile) text))) (λ t.
     record { size = t .0; good = t .1 .0; has = t .1 .1 })
 
 -- the test of a case
 unfoldable pub tested : (c : Case) → Test (Claim c)
-tested (writes text tile b) = so (both (writing text tile) (equal (sumOf tile 1 0) b)) (λ t. (
-  λ lent e. exactly (WriteTold 5 2 text lent) (write-told-once 5 2 text lent) done tile
-      (WriteTold.writes (admits size-5 at-5-2 (e, sym (ap length (t .0 .has)) ∙ text-length 5 tile)) (t .0)),
-  λ g. sym (common-is tile g) ∙ t .1,
+tested (writes text tile b) = so (both (writing text tile) (equal (sumOf 5 tile 1 0) b)) (λ t. (
+  λ k lent e. exactly (WriteTold k 5 2 text lent) (write-told-once k 5 2 text lent) done tile
+      (WriteTold.writes (admits size-5 (taken-5-2 k) (e, sym (ap length (t .0 .has)) ∙ text-length 5 tile)) (t .0)),
+  λ g. sym (common-is 5 2 tile g (omega arith)) ∙ t .1,
 ))
-tested (spoiled tile) = so (both (equal (length tile) (tileLength 5)) (not-good tile)) (λ t. (
+tested (spoiled tile) = so (both (equal (length tile) (tileLength 5)) (not-good 5 2 tile)) (λ t. (
   t .1,
-  λ page e. exactly (ReadTold 5 2 tile page) (read-told-once 5 2 tile page) (refused 5) page (ReadTold.not-good (admits size-5 at-5-2 (t .0, e)) (t .1)),
+  λ k page e. exactly (ReadTold k 5 2 tile page) (read-told-once k 5 2 tile page) (refused 5) page
+      (ReadTold.not-good (admits size-5 (taken-5-2 k) (t .0, e)) (t .1)),
 ))
 tested (repairs tile said new) =
-    so (admitted-tile tile (mends tile said new)) (exactly (RepairTold 5 2 tile) (repair-told-once 5 2 tile) said new)
+    so (admitted-tile tile (mends tile said new)) (λ t k. exactly (RepairTold k 5 2 tile) (repair-told-once k 5 2 tile) said new (t k))
 tested (fills tile a b said new) =
-    so (admitted-tile tile (filled tile a b said new)) (exactly (FillTold 5 2 tile a b) (fill-told-once 5 2 tile a b) said new)
+    so (admitted-tile tile (filled tile a b said new)) (λ t k. exactly (FillTold k 5 2 tile a b) (fill-told-once k 5 2 tile a b) said new (t k))
 
 -- what the tests show
 computed : Each Claim cases × Each Claim others

@@ -1,5 +1,6 @@
 // What the tile calls promise, in specs/; what they answer; and the judgement that comes first in each. The calls themselves have rooms of
 // their own, and users find all of them in the crate `tile`.
+use code::Kind;
 use size::Judgement;
 use size::Refusal;
 ghost use mathlib.Core.Path.{_≡_};
@@ -22,11 +23,11 @@ pub enum Repaired {
     Refused(Refusal),
 }
 
-// Judges the size, the slope and the tile's length: refusals 1, 2 and 3, in that order.
-pub fn judge_tile(p: usize, l: usize, cells: usize) -> Judgement
-    ensures { λ r. ⌜ Admitted p l (cells ≡ tileLength p) (judgementSaid r) ⌝ }
+// Judges the size, the kind's slope and the tile's length: refusals 1, 2 and 3, in that order.
+pub fn judge_tile(kind: Kind, p: usize, l: usize, cells: usize) -> Judgement
+    ensures { λ r. ⌜ Admitted kind p l (cells ≡ tileLength p) (judgementSaid r) ⌝ }
 {
-    match size::judge(p, l) {
+    match size::judge(kind, p, l) {
         Judgement::Refused(refusal) => Judgement::Refused(refusal),
         Judgement::Taken => {
             if cells == (p - 1) * (p - 1) {
@@ -39,10 +40,10 @@ pub fn judge_tile(p: usize, l: usize, cells: usize) -> Judgement
 }
 
 // Judges the text's length too.
-pub fn judge_text(p: usize, l: usize, cells: usize, letters: usize) -> Judgement
-    ensures { λ r. ⌜ Admitted p l ((cells ≡ tileLength p) × (letters ≡ textLength p)) (judgementSaid r) ⌝ }
+pub fn judge_text(kind: Kind, p: usize, l: usize, cells: usize, letters: usize) -> Judgement
+    ensures { λ r. ⌜ Admitted kind p l ((cells ≡ tileLength p) × (letters ≡ textLength p)) (judgementSaid r) ⌝ }
 {
-    match judge_tile(p, l, cells) {
+    match judge_tile(kind, p, l, cells) {
         Judgement::Refused(refusal) => Judgement::Refused(refusal),
         Judgement::Taken => {
             if letters == (p - 1) * (p - 3) {

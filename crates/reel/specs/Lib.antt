@@ -3,6 +3,7 @@ pub mod Reel
 pub mod Answer
 pub mod Calls
 pub mod Reading
+pub mod Mark
 pub mod Told
 pub mod Once
 pub mod Total

@@ -7,6 +7,7 @@ use native.Mathlib.Omega.{arith}
 use lib.ListN.{length, getD, drop, length-drop}
 use lib.Seq.{getD-drop}
 use Rattle.code.specs.Tile.{tileLength}
+use Rattle.code.specs.declared.Kind.{Kind}
 use Rattle.size.specs.Answer as size
 use Rattle.reel.specs.Reel.{byteOf, Marked, sizeOf, slopeOf, numberOf, bytesAt, HeaderWhole, RecordWhole}
 use Rattle.reel.specs.Answer.{Said, tile, refused}
@@ -22,10 +23,10 @@ module _ (reel : List ℕ) (at : ℕ) (h : at ≤ length reel) where
   byte : (n : ℕ) → n < bytesAt 0 → byteOf (drop at reel) 0 n ≡ byteOf reel at n
   byte n h = getD-drop at reel (0 + n) 0 ∙ ap (λ (k : ℕ). getD reel k 0) (omega arith)
 
-  marked-part : Marked reel at → Marked (drop at reel) 0
+  marked-part : (k : Kind) → Marked k reel at → Marked k (drop at reel) 0
   marked-part = same-marked (drop at reel) reel 0 at byte
 
-  part-marked : Marked (drop at reel) 0 → Marked reel at
+  part-marked : (k : Kind) → Marked k (drop at reel) 0 → Marked k reel at
   part-marked = same-marked reel (drop at reel) at 0 (λ n h. sym (byte n h))
 
   part-size : sizeOf (drop at reel) 0 ≡ sizeOf reel at
@@ -37,8 +38,10 @@ module _ (reel : List ℕ) (at : ℕ) (h : at ≤ length reel) where
   part-number : numberOf (drop at reel) 0 ≡ numberOf reel at
   part-number = same-number (drop at reel) reel 0 at byte
 
-  part-judged : {said : size.Said} → size.Judged (sizeOf (drop at reel) 0) (slopeOf (drop at reel) 0) said → size.Judged (sizeOf reel at) (slopeOf reel at) said
-  part-judged {said} j = subst (λ (n : ℕ). size.Judged (sizeOf reel at) n said) part-slope (subst (λ (n : ℕ). size.Judged n (slopeOf (drop at reel) 0) said) part-size j)
+  part-judged : {k : Kind} {said : size.Said} → size.Judged k (sizeOf (drop at reel) 0) (slopeOf (drop at reel) 0) said
+      → size.Judged k (sizeOf reel at) (slopeOf reel at) said
+  part-judged {k} {said} j =
+      subst (λ (n : ℕ). size.Judged k (sizeOf reel at) n said) part-slope (subst (λ (n : ℕ). size.Judged k n (slopeOf (drop at reel) 0) said) part-size j)
 
   part-whole : RecordWhole (drop at reel) 0 → RecordWhole reel at
   part-whole w = omega (arith, w, long, ap tileLength part-size)
@@ -58,9 +61,9 @@ module _ (reel : List ℕ) (at : ℕ) (h : at ≤ length reel) where
   pub part-told : {said : Said} → NextTold (drop at reel) 0 said → NextTold reel at (shifted at said)
   part-told (ends e) = ends (omega (arith, e, long))
   part-told (header-cut e f) = refused-at (header-cut (omega (arith, e, long)) (λ w. f (part-header w)))
-  part-told (no-mark w f) = refused-at (no-mark (header-part w) (λ m. f (marked-part m)))
-  part-told (refuses w m j) = refused-at (refuses (header-part w) (part-marked m) (part-judged j))
-  part-told (body-cut w m j f) = refused-at (body-cut (header-part w) (part-marked m) (part-judged j) (λ c. f (whole-part c)))
-  part-told (stands w m j) =
-      subst (λ (s : Said). NextTold reel at s) (λ i. tile (sym part-number i) (sym part-size i) (sym part-slope i) (bytesAt at))
-      (stands (part-whole w) (part-marked m) (part-judged j))
+  part-told (no-mark w f) = refused-at (no-mark (header-part w) (λ k m. f k (marked-part k m)))
+  part-told (refuses {k} w m j) = refused-at (refuses (header-part w) (part-marked k m) (part-judged j))
+  part-told (body-cut {k} w m j f) = refused-at (body-cut (header-part w) (part-marked k m) (part-judged j) (λ c. f (whole-part c)))
+  part-told (stands {k} w m j) =
+      subst (λ (s : Said). NextTold reel at s) (λ i. tile k (sym part-number i) (sym part-size i) (sym part-slope i) (bytesAt at))
+      (stands (part-whole w) (part-marked k m) (part-judged j))

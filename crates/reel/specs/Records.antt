@@ -7,12 +7,15 @@ use native.Mathlib.Omega.{arith}
 use lib.ListN.{length, take, drop, length-append, length-drop, List·getD-append}
 use lib.Seq.{drop-append-seam, drop-drop, drop-at, take-at, drop-append-le}
 use Rattle.code.specs.Tile.{tileLength, Bytes}
+use Rattle.code.specs.declared.Kind.{Kind}
+use Rattle.code.specs.declared.Kind.the-variants.{New, Old}
 use Rattle.size.specs.Answer as size
-use Rattle.reel.specs.Reel.{byteOf, sizeOf, slopeOf, numberOf, bytesAt, RecordWhole}
+use Rattle.reel.specs.Reel.{byteOf, Marked, sizeOf, slopeOf, numberOf, bytesAt, RecordWhole}
 use Rattle.reel.specs.Answer.{Said, tile, end}
 use Rattle.reel.specs.Calls.{NextTold, ends, stands}
 use Rattle.reel.specs.Walk.{WalkByPlace}
 use Rattle.reel.specs.Walk as walk
+use Rattle.reel.specs.Mark.{markNumber, mark-fits}
 use Rattle.reel.specs.Told.{same-marked, same-size, same-slope, same-number}
 use Rattle.reel.specs.Part.{part-told}
 use Rattle.reel.specs.Record.{Printed, Fit, RecordOf, Laid, ReadBack}
@@ -20,11 +23,11 @@ use Rattle.reel.specs.Record as put
 
 -- ---- a record is put together
 
--- what stands before a tile's bytes: each number as its bytes, the high one first
+-- what stands before a tile's bytes: the mark of its kind and the numbers, each as its bytes, the high one first
 abbrev header : Printed → List ℕ
 header t =
-    0xD5
-    ∷ 0x5D
+    markNumber (t .kind) / 256
+    ∷ markNumber (t .kind) % 256
     ∷ t .p / 256
     ∷ t .p % 256
     ∷ t .l / 256
@@ -38,9 +41,13 @@ header t =
 abbrev pub made : Printed → List ℕ
 made t = header t ++ t .tile
 
+made-marked : (k : Kind) (more : List ℕ) → Marked k (markNumber k / 256 ∷ markNumber k % 256 ∷ more) 0
+made-marked New more = (refl, refl)
+made-marked Old more = (refl, refl)
+
 pub made-record : (t : Printed) → RecordOf t (made t)
 made-record t = record {
-  marked = (refl, refl);
+  marked = made-marked (t .kind) (drop 2 (made t));
   size = omega arith;
   slope = omega arith;
   number = omega arith;
@@ -60,7 +67,7 @@ all-bytes (x ∷ xs) ys a b (suc k) = all-bytes xs ys (a .1) b k
 
 pub made-bytes : (t : Printed) → t .p < 65536 → t .l < 65536 → t .number < 4294967296 → Bytes (t .tile) → Bytes (made t)
 made-bytes t hp hl hn ht =
-    all-bytes (header t) (t .tile) (omega arith) ht
+    all-bytes (header t) (t .tile) (omega (arith, mark-fits (t .kind))) ht
 
 -- ---- a record that stands first
 
@@ -82,13 +89,13 @@ module _ (t : Printed) (bytes behind : List ℕ) (fit : Fit t) (of : RecordOf t 
   long = of .long ∙ ap (λ (n : ℕ). bytesAt 0 + n) (fit .long)
 
   -- it is answered as that tile ..
-  first-told : NextTold (bytes ++ behind) 0 (tile (t .number) (t .p) (t .l) (bytesAt 0))
+  first-told : NextTold (bytes ++ behind) 0 (tile (t .kind) (t .number) (t .p) (t .l) (bytesAt 0))
   first-told =
       let whole : RecordWhole (bytes ++ behind) 0 = omega (arith, length-append bytes behind, long, ap tileLength says-size) in
-      let judged : size.Judged (sizeOf (bytes ++ behind) 0) (slopeOf (bytes ++ behind) 0) size.well = rw (says-size, says-slope) (size.taken (fit .size) (fit .slope)) in
-      let told : NextTold (bytes ++ behind) 0 (tile (numberOf (bytes ++ behind) 0) (sizeOf (bytes ++ behind) 0) (slopeOf (bytes ++ behind) 0) (bytesAt 0)) =
-      stands whole (same-marked (bytes ++ behind) bytes 0 0 same (of .marked)) judged in
-      subst (λ (s : Said). NextTold (bytes ++ behind) 0 s) (λ i. tile (says-number i) (says-size i) (says-slope i) (bytesAt 0)) told
+      let judged : size.Judged (t .kind) (sizeOf (bytes ++ behind) 0) (slopeOf (bytes ++ behind) 0) size.well = rw (says-size, says-slope) (size.taken (fit .size) (fit .slope)) in
+      let told : NextTold (bytes ++ behind) 0 (tile (t .kind) (numberOf (bytes ++ behind) 0) (sizeOf (bytes ++ behind) 0) (slopeOf (bytes ++ behind) 0) (bytesAt 0)) =
+      stands whole (same-marked (bytes ++ behind) bytes 0 0 same (t .kind) (of .marked)) judged in
+      subst (λ (s : Said). NextTold (bytes ++ behind) 0 s) (λ i. tile (t .kind) (says-number i) (says-size i) (says-slope i) (bytesAt 0)) told
 
   -- .. whose bytes stand where the answer says ..
   first-bytes : take (tileLength (t .p)) (drop (bytesAt 0) (bytes ++ behind)) ≡ t .tile
@@ -103,8 +110,8 @@ module _ (t : Printed) (bytes behind : List ℕ) (fit : Fit t) (of : RecordOf t 
 -- ---- wherever it stands
 
 module _ (reel bytes behind : List ℕ) (t : Printed) (at : ℕ) (h : at ≤ length reel) (here : drop at reel ≡ bytes ++ behind) (fit : Fit t) (of : RecordOf t bytes) where
-  pub reads-back : NextTold reel at (tile (t .number) (t .p) (t .l) (bytesAt at))
-  reads-back = part-told reel at h (subst (λ (x : List ℕ). NextTold x 0 (tile (t .number) (t .p) (t .l) (bytesAt 0))) (sym here) (first-told t bytes behind fit of))
+  pub reads-back : NextTold reel at (tile (t .kind) (t .number) (t .p) (t .l) (bytesAt at))
+  reads-back = part-told reel at h (subst (λ (x : List ℕ). NextTold x 0 (tile (t .kind) (t .number) (t .p) (t .l) (bytesAt 0))) (sym here) (first-told t bytes behind fit of))
 
   pub bytes-back : take (tileLength (t .p)) (drop (bytesAt at) reel) ≡ t .tile
   bytes-back = ap (take (tileLength (t .p))) (sym (drop-drop (bytesAt 0) at reel) ∙ ap (drop (bytesAt 0)) here) ∙ first-bytes t bytes behind fit of
@@ -121,7 +128,7 @@ module _ (reel bytes behind : List ℕ) (t : Printed) (at : ℕ) (h : at ≤ len
 
 -- so a record that is put together reads back as itself, whatever stands before it and behind it
 pub made-back : (t : Printed) → Fit t → (before behind : List ℕ)
-    → NextTold (before ++ (made t ++ behind)) (length before) (tile (t .number) (t .p) (t .l) (bytesAt (length before)))
+    → NextTold (before ++ (made t ++ behind)) (length before) (tile (t .kind) (t .number) (t .p) (t .l) (bytesAt (length before)))
     × (take (tileLength (t .p)) (drop (bytesAt (length before)) (before ++ (made t ++ behind))) ≡ t .tile)
 made-back t fit before behind =
     let reel = before ++ (made t ++ behind) in
@@ -141,8 +148,8 @@ back-from reel ts left (put.Laid.more {t} {bytes} {ts = others} {reel = behind} 
     let told = reads-back reel bytes behind t at h e fit of in
     let to = bytesAt at + tileLength (t .p) in
     let others-back = back-from reel others behind rest to (still-within reel bytes behind t at h e fit of) (behind-it reel bytes behind t at h e fit of) in (
-      tile (t .number) (t .p) (t .l) (bytesAt at) ∷ others-back .0,
-      walk.WalkByPlace.goes-on told (record { said = tile (t .number) (t .p) (t .l) (bytesAt at); told = told; is = refl }) (others-back .1),
+      tile (t .kind) (t .number) (t .p) (t .l) (bytesAt at) ∷ others-back .0,
+      walk.WalkByPlace.goes-on told (record { said = tile (t .kind) (t .number) (t .p) (t .l) (bytesAt at); told = told; is = refl }) (others-back .1),
       put.ReadBack.more (bytes-back reel bytes behind t at h e fit of) (others-back .2),
     )
 

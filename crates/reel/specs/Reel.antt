@@ -4,15 +4,19 @@ use mathlib.Core.List.{List}
 use Prim.Native.Nat.{ℕ, _+_, _≤_}
 use lib.ListN.{length, getD}
 use Rattle.code.specs.Tile.{tileLength}
+use Rattle.code.specs.declared.Kind.{Kind}
+use Rattle.code.specs.declared.Kind.the-variants.{New, Old}
 use Rattle.record.specs.Number.{bigEndian, bigEndianLong}
 
 -- SPEC 7.1: the n-th byte of the record at a place
 abbrev pub byteOf : List ℕ → ℕ → ℕ → ℕ
 byteOf reel at n = getD reel (at + n) 0
 
--- SPEC 7.1 and FORMATS: the mark, D5 5D; p and l, each a number of two bytes; the tile's number, of four
-abbrev pub Marked : List ℕ → ℕ → Type 0
-Marked reel at = (byteOf reel at 0 ≡ 0xD5) × (byteOf reel at 1 ≡ 0x5D)
+-- SPEC 7.1 and FORMATS: the mark of each kind, D5 5D of a new record and 5D D5 of an old one; p and l, each a number of two bytes; the
+-- tile's number, of four
+abbrev pub Marked : Kind → List ℕ → ℕ → Type 0
+Marked New reel at = (byteOf reel at 0 ≡ 0xD5) × (byteOf reel at 1 ≡ 0x5D)
+Marked Old reel at = (byteOf reel at 0 ≡ 0x5D) × (byteOf reel at 1 ≡ 0xD5)
 
 abbrev pub sizeOf : List ℕ → ℕ → ℕ
 sizeOf reel at = bigEndian (byteOf reel at 2) (byteOf reel at 3)

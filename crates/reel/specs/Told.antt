@@ -3,35 +3,30 @@ use mathlib.Core.Path.{_≡_, refl, sym, ap, _∙_}
 use mathlib.Core.List.{List, []}
 use Prim.Native.Nat.{ℕ, _+_, _-_, _<_, _≤_}
 use native.Mathlib.Omega.{arith}
-use lib.Dec.{T, eqb, ltb, lit<}
-use lib.ListN.{length, getD, drop, length-drop}
+use lib.Dec.{T, ltb, lit<}
+use lib.ListN.{length, drop, length-drop}
 use lib.Seq.{take-all}
 use denote.Ref.{RefT, now}
-use Rattle.residue.specs.Size.{Size, Allowed}
+use Rattle.residue.specs.Size.{Size}
+use Rattle.code.specs.Kind.{Takes}
 use Rattle.code.specs.Tile.{tileLength}
+use Rattle.code.specs.declared.Kind.{Kind}
+use Rattle.code.specs.declared.Kind.the-variants.{New, Old}
 use Rattle.record.specs.Number.{bigEndian, bigEndianLong}
-use Rattle.code.specs.Says.{Says, says-equal}
 use Rattle.size.specs.Answer.{well, Judged}
 use Rattle.size.specs.Told.{judged-well}
 use Rattle.reel.specs.Reel.{byteOf, Marked, sizeOf, slopeOf, numberOf, bytesAt, HeaderWhole, RecordWhole}
 use Rattle.reel.specs.Answer.{Said, tile, end, refused, NoTile}
 use Rattle.reel.specs.Calls.{NextTold, header-cut, no-mark, refuses, body-cut, stands, afterSaid, HandsBack, RestTold}
 
--- a record has the mark exactly if its first two bytes make that number
-pub mark-says : (reel : List ℕ) (at n : ℕ) → n ≡ bigEndian (getD reel at 0) (byteOf reel at 1) → getD reel at 0 < 256 → byteOf reel at 1 < 256
-    → Says (eqb n 0xD55D) (Marked reel at)
-mark-says reel at n is high low = says-equal n 0xD55D (λ e. (omega (arith, first), omega arith)) (λ m. omega (arith, first, m .0, m .1))
-  where
-    first : getD reel at 0 ≡ byteOf reel at 0
-    first = ap (λ (k : ℕ). getD reel k 0) (omega arith)
-
 -- two headers whose bytes are the same say the same
 module _ (a b : List ℕ) (i j : ℕ) (same : (n : ℕ) → n < bytesAt 0 → byteOf a i n ≡ byteOf b j n) where
   byte : (n : ℕ) → T (ltb n 10) → byteOf a i n ≡ byteOf b j n
   byte n h = same n (lit< h)
 
-  pub same-marked : Marked b j → Marked a i
-  same-marked m = (byte 0 tt ∙ m .0, byte 1 tt ∙ m .1)
+  pub same-marked : (k : Kind) → Marked k b j → Marked k a i
+  same-marked New m = (byte 0 tt ∙ m .0, byte 1 tt ∙ m .1)
+  same-marked Old m = (byte 0 tt ∙ m .0, byte 1 tt ∙ m .1)
 
   pub same-size : sizeOf a i ≡ sizeOf b j
   same-size = λ k. bigEndian (byte 2 tt k) (byte 3 tt k)
@@ -43,29 +38,29 @@ module _ (a b : List ℕ) (i j : ℕ) (same : (n : ℕ) → n < bytesAt 0 → by
   same-number = λ k. bigEndianLong (byte 6 tt k) (byte 7 tt k) (byte 8 tt k) (byte 9 tt k)
 
 -- what the header was read to say stands for what it says: a tile whose bytes are cut short, and one that is whole
-module _ (reel : List ℕ) (at p l count : ℕ) (size : p ≡ sizeOf reel at) (slope : l ≡ slopeOf reel at) (long : count ≡ tileLength p) where
-  pub cut-told : HeaderWhole reel at → Marked reel at → Judged p l well → length reel < bytesAt at + count → NextTold reel at (refused 7 at)
+module _ (reel : List ℕ) (at : ℕ) (k : Kind) (p l count : ℕ) (size : p ≡ sizeOf reel at) (slope : l ≡ slopeOf reel at) (long : count ≡ tileLength p) where
+  pub cut-told : HeaderWhole reel at → Marked k reel at → Judged k p l well → length reel < bytesAt at + count → NextTold reel at (refused 7 at)
   cut-told h m j c = body-cut h m (rw (size, slope) at j) (λ w. omega (arith, w, sized))
     where
       sized : count ≡ tileLength (sizeOf reel at)
       sized = long ∙ ap tileLength size
 
-  pub stands-told : (number : ℕ) → number ≡ numberOf reel at → Marked reel at → Judged p l well → bytesAt at + count ≤ length reel
-      → NextTold reel at (tile number p l (bytesAt at))
+  pub stands-told : (number : ℕ) → number ≡ numberOf reel at → Marked k reel at → Judged k p l well → bytesAt at + count ≤ length reel
+      → NextTold reel at (tile k number p l (bytesAt at))
   stands-told number named m j w =
       let whole : RecordWhole reel at = omega (arith, long ∙ ap tileLength size) in
-      let told : NextTold reel at (tile (numberOf reel at) (sizeOf reel at) (slopeOf reel at) (bytesAt at)) = stands whole m (rw (size, slope) at j) in
+      let told : NextTold reel at (tile k (numberOf reel at) (sizeOf reel at) (slopeOf reel at) (bytesAt at)) = stands whole m (rw (size, slope) at j) in
       rw (sym size, sym slope, sym named) at told
 
--- a tile's size and slope are taken, and its bytes lie within the reel
-pub tile-taken : {reel : List ℕ} {at number p l from : ℕ} → NextTold reel at (tile number p l from) → Size p × Allowed p l
+-- a tile's size is one, and its slope is one that its kind takes there; its bytes lie within the reel
+pub tile-taken : {reel : List ℕ} {k : Kind} {at number p l from : ℕ} → NextTold reel at (tile k number p l from) → Size p × Takes k p l
 tile-taken (stands w m j) = judged-well j
 
-pub tile-within : {reel : List ℕ} {at number p l from : ℕ} → NextTold reel at (tile number p l from) → from + tileLength p ≤ length reel
+pub tile-within : {reel : List ℕ} {k : Kind} {at number p l from : ℕ} → NextTold reel at (tile k number p l from) → from + tileLength p ≤ length reel
 tile-within (stands w m j) = w
 
 -- they begin behind the header, which begins at the place
-pub tile-behind : {reel : List ℕ} {at number p l from : ℕ} → NextTold reel at (tile number p l from) → from ≡ bytesAt at
+pub tile-behind : {reel : List ℕ} {k : Kind} {at number p l from : ℕ} → NextTold reel at (tile k number p l from) → from ≡ bytesAt at
 tile-behind (stands w m j) = refl
 
 -- where no tile stands, the place behind it is the place itself, and no bytes are handed back

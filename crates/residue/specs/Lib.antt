@@ -3,5 +3,7 @@ pub mod Remainder
 pub mod Prime
 pub mod Pigeon
 pub mod Power
+pub mod Search
+pub mod Order
 pub mod Size
 pub mod Test

@@ -60,7 +60,7 @@ module _ (p l : ℕ) (P : Prime p) where
       ⊎-elim (λ z. omega (arith, power-pos h k)) (λ z. omega arith) (euclid P (l ^ k) o zero?))
 
   -- what is left between two powers that are alike is 1
-  between : 0 < l % p → (j k : ℕ) → j ≤ k → (l ^ j) % p ≡ (l ^ k) % p → (l ^ (k - j)) % p ≡ 1
+  pub between : 0 < l % p → (j k : ℕ) → j ≤ k → (l ^ j) % p ≡ (l ^ k) % p → (l ^ (k - j)) % p ≡ 1
   between h j k jk e =
       let sum : k ≡ j + (k - j) = omega arith in
       sym (mul-cancel P (l ^ j) 1 (l ^ (k - j)) (power-pos h j) (same p (mul-one _) ∙ e ∙ same p (ap (λ (x : ℕ). l ^ x) sum ∙ pow-add l j (k - j)))) ∙ one

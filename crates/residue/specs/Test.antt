@@ -1,8 +1,7 @@
--- A test that antt computes at each number below a bound, and the law that carries it to each; and a search among the numbers below a
--- bound. Assumes nothing.
+-- A test that antt computes at each number below a bound, and the law that carries it to each. Assumes nothing.
 use mathlib.Core.Bool.{Bool, true, false, _&&_, _||_}
 use mathlib.Core.Path.{subst, sym}
-use mathlib.Core.Logic.{_⊎_, inl, inr, ⊎-elim}
+use mathlib.Core.Logic.{⊎-elim}
 use Prim.Native.Nat.{ℕ, zero, suc, _<_}
 use native.Mathlib.Nat.{eq-or-lt-of-le, le-of-suc-le-suc, not-suc-le-zero, lt-suc-self, le-step}
 use lib.Dec.{T}
@@ -52,13 +51,3 @@ pub at-up : (f : ℕ → Bool) (n : ℕ) → ((k : ℕ) → k < n → T (f k)) �
 unfolding upTo
 at-up f zero g = tt
 at-up f (suc n) g = and-both (f n) (upTo f n) (g n (lt-suc-self n)) (at-up f n (λ k h. g k (le-step h)))
-
--- where each number can be decided, one below n has P, or none has
-pub some-or-none : (P : ℕ → Type 0) → ((k : ℕ) → Dec (P k)) → (n : ℕ) → ((k : ℕ) × (k < n) × P k) ⊎ ((k : ℕ) → k < n → P k → ⊥)
-some-or-none P decide zero = inr (λ k h q. not-suc-le-zero h)
-some-or-none P decide (suc n) = at (decide n) (some-or-none P decide n)
-  where
-    at : Dec (P n) → ((k : ℕ) × (k < n) × P k) ⊎ ((k : ℕ) → k < n → P k → ⊥) → ((k : ℕ) × (k < suc n) × P k) ⊎ ((k : ℕ) → k < suc n → P k → ⊥)
-    at (yes q) below = inl (n, lt-suc-self n, q)
-    at (no d) (inl t) = inl (t .0, le-step (t .1), t .2)
-    at (no d) (inr none) = inr (λ k h q. ⊎-elim (λ e. d (subst P e q)) (λ lt. none k lt q) (eq-or-lt-of-le (le-of-suc-le-suc h)))

@@ -1,5 +1,6 @@
 // Answers in words and numbers on standard output, each with a space before it. A write that fails is not told: the comparison with `stdout`
 // then finds the text missing.
+use code::Kind;
 use libc::STDOUT_FILENO;
 use promise::Outcome;
 use promise::Repaired;
@@ -66,10 +67,12 @@ pub fn corrected(corrected: Corrected) {
     }
 }
 
-// A tile's number, size and slope, and where its bytes begin; the end; or a refusal's number and offset.
+// A tile's kind, where it is old, its number, size and slope, and where its bytes begin; the end; or a refusal's number and offset.
 pub fn found(found: Found) {
     match found {
         Found::Tile(tile) => {
+            let of = tile.kind;
+            kind(of);
             count(b" tile", tile.number);
             count(b"", tile.p);
             count(b"", tile.l);
@@ -80,5 +83,13 @@ pub fn found(found: Found) {
             refused(refusal);
             count(b" at", at);
         }
+    }
+}
+
+// Of an old tile that it is one.
+fn kind(kind: Kind) {
+    match kind {
+        Kind::New => {}
+        Kind::Old => words(b" old"),
     }
 }

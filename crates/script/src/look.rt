@@ -1,5 +1,6 @@
 // The questions that change nothing: each makes its calls and writes what they answer.
 use crate::answer;
+use code::Kind;
 use size::House;
 use size::Judgement;
 use walk::sums::line_sums;
@@ -7,10 +8,10 @@ ghost use lib.ListN.{length};
 ghost use Rattle.walk.specs.Sums.{Shape};
 
 // By the first letter of its name.
-pub fn look(name: u8, p: usize, l: usize, held: &[u8]) {
+pub fn look(name: u8, kind: Kind, p: usize, l: usize, held: &[u8]) {
     match name {
         b'h' => house(p),
-        b'j' => judge(p, l),
+        b'j' => judge(kind, p, l),
         b's' => sums(p, l, held),
         _ => place(std::num::wrapping_sub_usize(p, l), held),
     }
@@ -23,8 +24,8 @@ fn house(p: usize) {
     }
 }
 
-fn judge(p: usize, l: usize) {
-    match size::judge(p, l) {
+fn judge(kind: Kind, p: usize, l: usize) {
+    match size::judge(kind, p, l) {
         Judgement::Taken => answer::words(b" taken"),
         Judgement::Refused(refusal) => answer::refused(refusal),
     }

@@ -1,4 +1,5 @@
 // A line of the script: its columns, and its bytes. Nothing is asked of the signs; others than digits are read as some digit.
+use code::Kind;
 use code::Line;
 ghost use Prim.Native.Nat.{_+_, _<_};
 ghost use lib.ListN.{length};
@@ -6,9 +7,10 @@ ghost use lib.ListN.{length};
 // How many columns stand before the bytes. The last of them has the colon by which a question is known.
 pub const COLUMNS: usize = 24;
 
-// What a question tells a call: the first letter of its name, two numbers, and two lines of a tile.
+// What a question tells a call: the first letter of its name, a tile's kind, two numbers, and two lines of a tile.
 pub struct Told {
     pub name: u8,
+    pub kind: Kind,
     pub p: usize,
     pub l: usize,
     pub first: Line,
@@ -20,6 +22,7 @@ pub fn numbers(line: &[u8]) -> Told {
     if line.len() < COLUMNS {
         return Told {
             name: b' ',
+            kind: Kind::New,
             p: 0,
             l: 0,
             first: Line::Row(0),
@@ -28,11 +31,17 @@ pub fn numbers(line: &[u8]) -> Told {
     }
     Told {
         name: line[0],
+        kind: kind(line[7]),
         p: number(line, 8),
         l: number(line, 12),
         first: flagged(line, 16),
         second: flagged(line, 20),
     }
+}
+
+// The kind of a tile: o for an old one.
+fn kind(sign: u8) -> Kind {
+    if sign == b'o' { Kind::Old } else { Kind::New }
 }
 
 // The decimal number in three columns. A space counts as 0.

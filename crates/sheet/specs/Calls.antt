@@ -4,6 +4,7 @@ use mathlib.Core.Path.{_≡_}
 use mathlib.Core.List.{List}
 use Prim.Native.Nat.{ℕ, _*_, _<_}
 use Rattle.code.specs.Tile.{Writes, xored}
+use Rattle.code.specs.declared.Kind.{Kind}
 use Rattle.size.specs.Answer as size
 use Rattle.promise.specs.Calls.{Admitted, TileLength}
 use Rattle.sheet.specs.Answer.{Said, corrected, refused}
@@ -25,8 +26,8 @@ pub record Corrects (p l : ℕ) (sheet x y : List ℕ) : Type 0 where
   pub becomes : y ≡ xored x change
 
 -- SPEC 6.3 and 6.4: CORRECT. Refused 1, 2 or 3 with offset 0, then as the sheet is judged; where there is no fault the tile is corrected
-pub data CorrectTold (p l : ℕ) (tile sheet : List ℕ) : Said → List ℕ → Type 0 where
-  refuses : {n : ℕ} → Admitted p l (TileLength p tile) (size.refused n) → CorrectTold p l tile sheet (refused n 0) tile
-  faulty : {n at : ℕ} → Admitted p l (TileLength p tile) size.well → Judged p sheet (refused n at) → CorrectTold p l tile sheet (refused n at) tile
-  corrects : {n : ℕ} {new : List ℕ} → Admitted p l (TileLength p tile) size.well → Judged p sheet (corrected n) → Corrects p l sheet tile new
-      → CorrectTold p l tile sheet (corrected n) new
+pub data CorrectTold (kind : Kind) (p l : ℕ) (tile sheet : List ℕ) : Said → List ℕ → Type 0 where
+  refuses : {n : ℕ} → Admitted kind p l (TileLength p tile) (size.refused n) → CorrectTold kind p l tile sheet (refused n 0) tile
+  faulty : {n at : ℕ} → Admitted kind p l (TileLength p tile) size.well → Judged p sheet (refused n at) → CorrectTold kind p l tile sheet (refused n at) tile
+  corrects : {n : ℕ} {new : List ℕ} → Admitted kind p l (TileLength p tile) size.well → Judged p sheet (corrected n) → Corrects p l sheet tile new
+      → CorrectTold kind p l tile sheet (corrected n) new

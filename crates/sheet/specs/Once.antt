@@ -7,6 +7,7 @@ use native.Mathlib.Omega.{arith, by-contra}
 use Rattle.code.specs.Slope.{Slope}
 use Rattle.code.specs.Tile.{xored}
 use Rattle.code.specs.Writing.{written-once}
+use Rattle.code.specs.declared.Kind.{Kind}
 use Rattle.size.specs.Answer as size
 use Rattle.size.specs.Refusal.{numberOf}
 use Rattle.size.specs.Once.{number-once}
@@ -62,19 +63,19 @@ corrects-once p l sheet x y z S c d =
     c .becomes ∙ ap (xored x) (written-once p l _ (c .change) (d .change) S (c .written) (d .written)) ∙ sym (d .becomes)
 
 -- and one thing is said
-pub correct-told-once : (p l : ℕ) (tile sheet : List ℕ) → Single (CorrectTold p l tile sheet)
-correct-told-once p l tile sheet a b x y (CorrectTold.refuses {n} h) (CorrectTold.refuses {n = m} k) =
-    let e : size.refused n ≡ size.refused m = admitted-once p l (TileLength p tile) (size.refused n) (size.refused m) h k in (cc, refl)
-correct-told-once p l tile sheet a b x y (CorrectTold.refuses h) (CorrectTold.faulty k j) = absurd (admitted-no h (admitted-well k))
-correct-told-once p l tile sheet a b x y (CorrectTold.refuses h) (CorrectTold.corrects k j c) = absurd (admitted-no h (admitted-well k))
-correct-told-once p l tile sheet a b x y (CorrectTold.faulty h j) (CorrectTold.refuses k) = absurd (admitted-no k (admitted-well h))
-correct-told-once p l tile sheet a b x y (CorrectTold.faulty h i) (CorrectTold.faulty k j) = (judged-told-once p sheet a b i j, refl)
-correct-told-once p l tile sheet a b x y (CorrectTold.faulty h i) (CorrectTold.corrects k j c) =
+pub correct-told-once : (kind : Kind) (p l : ℕ) (tile sheet : List ℕ) → Single (CorrectTold kind p l tile sheet)
+correct-told-once kind p l tile sheet a b x y (CorrectTold.refuses {n} h) (CorrectTold.refuses {n = m} k) =
+    let e : size.refused n ≡ size.refused m = admitted-once kind p l (TileLength p tile) (size.refused n) (size.refused m) h k in (cc, refl)
+correct-told-once kind p l tile sheet a b x y (CorrectTold.refuses h) (CorrectTold.faulty k j) = absurd (admitted-no h (admitted-well k))
+correct-told-once kind p l tile sheet a b x y (CorrectTold.refuses h) (CorrectTold.corrects k j c) = absurd (admitted-no h (admitted-well k))
+correct-told-once kind p l tile sheet a b x y (CorrectTold.faulty h j) (CorrectTold.refuses k) = absurd (admitted-no k (admitted-well h))
+correct-told-once kind p l tile sheet a b x y (CorrectTold.faulty h i) (CorrectTold.faulty k j) = (judged-told-once p sheet a b i j, refl)
+correct-told-once kind p l tile sheet a b x y (CorrectTold.faulty h i) (CorrectTold.corrects k j c) =
     let e = judged-told-once p sheet a b i j in absurd (let z : _≡_ {A = ℕ} 0 1 = cc in omega arith)
-correct-told-once p l tile sheet a b x y (CorrectTold.corrects h j c) (CorrectTold.refuses k) = absurd (admitted-no k (admitted-well h))
-correct-told-once p l tile sheet a b x y (CorrectTold.corrects h i c) (CorrectTold.faulty k j) =
+correct-told-once kind p l tile sheet a b x y (CorrectTold.corrects h j c) (CorrectTold.refuses k) = absurd (admitted-no k (admitted-well h))
+correct-told-once kind p l tile sheet a b x y (CorrectTold.corrects h i c) (CorrectTold.faulty k j) =
     let e = judged-told-once p sheet a b i j in absurd (let z : _≡_ {A = ℕ} 0 1 = cc in omega arith)
-correct-told-once p l tile sheet a b x y (CorrectTold.corrects h i c) (CorrectTold.corrects k j d) =
+correct-told-once kind p l tile sheet a b x y (CorrectTold.corrects h i c) (CorrectTold.corrects k j d) =
     (judged-told-once p sheet a b i j, corrects-once p l sheet tile x y (slope-of h) c d)
 
 -- and one answer says it
@@ -87,7 +88,7 @@ corrected-said-once (Refused r i) (Refused s j) e =
     let o : i ≡ j = cc in ap (λ (q : Refusal). Refused q i) (number-once r s n) ∙ ap (Refused s) o
 
 -- a correction has one right answer, and leaves one tile
-pub correct-once : (p l : ℕ) (tile sheet : List ℕ) (a b : Corrected) (x y : List ℕ)
-    → CorrectTold p l tile sheet (correctedSaid a) x → CorrectTold p l tile sheet (correctedSaid b) y → (a ≡ b) × (x ≡ y)
-correct-once p l tile sheet a b x y t u =
-    let e = correct-told-once p l tile sheet (correctedSaid a) (correctedSaid b) x y t u in (corrected-said-once a b (e .0), e .1)
+pub correct-once : (kind : Kind) (p l : ℕ) (tile sheet : List ℕ) (a b : Corrected) (x y : List ℕ)
+    → CorrectTold kind p l tile sheet (correctedSaid a) x → CorrectTold kind p l tile sheet (correctedSaid b) y → (a ≡ b) × (x ≡ y)
+correct-once kind p l tile sheet a b x y t u =
+    let e = correct-told-once kind p l tile sheet (correctedSaid a) (correctedSaid b) x y t u in (corrected-said-once a b (e .0), e .1)

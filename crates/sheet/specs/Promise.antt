@@ -8,62 +8,64 @@ use native.Mathlib.Omega.{arith}
 use lib.ListN.{length}
 use Rattle.xor.specs.Xor.{_⊕_, zero-r}
 use Rattle.residue.specs.Size.{Size, Allowed}
-use Rattle.code.specs.Slope.{allowed-slope}
+use Rattle.code.specs.Kind.{Takes, taken-slope}
 use Rattle.code.specs.Tile.{tileLength, cell, Good, textLength, textOf, Writes, xored}
 use Rattle.code.specs.Place.{cell-padded, textByte, text-length, text-at}
 use Rattle.code.specs.Xored.{xored-length, xored-letter, xored-cell, xored-is, xored-good, xored-text}
 use Rattle.code.specs.Distance.{Blank, lines-blank, within-off}
+use Rattle.code.specs.declared.Kind.{Kind}
 use Rattle.code.specs.declared.Line.{Line}
 use Rattle.code.specs.declared.Line.the-variants.{Column}
 use Rattle.promise.specs.Answer as answer
 use Rattle.promise.specs.Calls.{WriteTold, ReadTold, RepairTold, FillTold}
-use Rattle.promise.specs.Admit.{admits, admitted-well, admitted-no}
+use Rattle.promise.specs.Admit.{admits, admitted-well, admitted-no, admitted-alike}
 use Rattle.promise.specs.Once.{write-told-once, read-told-once, repair-told-once, fill-told-once}
+use Rattle.promise.specs.Promise.{repair-refused, fill-refused}
 use Rattle.promise.specs.Carry.{repair-carried, fill-carried, repaired-good}
 use Rattle.sheet.specs.Sheet.{records, isOf, given, differences, Whole, Placed, SoundBelow}
 use Rattle.sheet.specs.Answer.{Said, corrected, refused}
 use Rattle.sheet.specs.Calls.{sound, Corrects, CorrectTold}
 use Rattle.sheet.specs.Judge.{judged-sound}
 use Rattle.sheet.specs.Make.{given-none, given-off, differences-at}
-use Rattle.sheet.specs.Once.{judged-told-once}
+use Rattle.sheet.specs.Once.{judged-told-once, correct-told-once}
 use Rattle.sheet.specs.Last.{NoneFrom, Follows, Last, last-made}
 
 -- ---- what is taken, and what is refused
 
 -- every tile of the right length, good or damaged or garbage, is corrected by every sound sheet, whose records are counted in the answer
-pub correct-takes : (p l : ℕ) (tile sheet : List ℕ) (said : Said) (new : List ℕ) → Size p → Allowed p l → length tile ≡ tileLength p
-    → Whole sheet → SoundBelow p sheet (records sheet) → CorrectTold p l tile sheet said new → said ≡ corrected (records sheet)
-correct-takes p l tile sheet said new s w e whole below told = go told
+pub correct-takes : (kind : Kind) (p l : ℕ) (tile sheet : List ℕ) (said : Said) (new : List ℕ) → Size p → Takes kind p l → length tile ≡ tileLength p
+    → Whole sheet → SoundBelow p sheet (records sheet) → CorrectTold kind p l tile sheet said new → said ≡ corrected (records sheet)
+correct-takes kind p l tile sheet said new s w e whole below told = go told
   where
-    go : {said : Said} {new : List ℕ} → CorrectTold p l tile sheet said new → said ≡ corrected (records sheet)
+    go : {said : Said} {new : List ℕ} → CorrectTold kind p l tile sheet said new → said ≡ corrected (records sheet)
     go (CorrectTold.refuses h) = absurd (admitted-no h (s, w, e))
     go (CorrectTold.faulty {n} {at} h j) = judged-told-once p sheet (refused n at) (corrected (records sheet)) j (sound whole below)
     go (CorrectTold.corrects {n} h j c) = judged-told-once p sheet (corrected n) (corrected (records sheet)) j (sound whole below)
 
 -- the count that is answered is an eighth of the sheet's length
-pub count-tied : {p l n : ℕ} {tile sheet new : List ℕ} → CorrectTold p l tile sheet (corrected n) new → 8 * n ≡ length sheet
+pub count-tied : {kind : Kind} {p l n : ℕ} {tile sheet new : List ℕ} → CorrectTold kind p l tile sheet (corrected n) new → 8 * n ≡ length sheet
 count-tied (CorrectTold.corrects h (sound w below) c) = omega arith
 
 -- a refused correction leaves the tile
-pub correct-refused : {p l n at : ℕ} {tile sheet new : List ℕ} → CorrectTold p l tile sheet (refused n at) new → new ≡ tile
+pub correct-refused : {kind : Kind} {p l n at : ℕ} {tile sheet new : List ℕ} → CorrectTold kind p l tile sheet (refused n at) new → new ≡ tile
 correct-refused (CorrectTold.refuses h) = refl
 correct-refused (CorrectTold.faulty h j) = refl
 
 -- ---- what is changed
 
 -- what a correction makes
-pub changed : {p l n : ℕ} {tile sheet new : List ℕ} → CorrectTold p l tile sheet (corrected n) new → Corrects p l sheet tile new
+pub changed : {kind : Kind} {p l n : ℕ} {tile sheet new : List ℕ} → CorrectTold kind p l tile sheet (corrected n) new → Corrects p l sheet tile new
 changed (CorrectTold.corrects h j c) = c
 
--- where a correction is made, the size is a size, the slope is allowed and the tile has its length
-taken : {p l n : ℕ} {tile sheet new : List ℕ} → CorrectTold p l tile sheet (corrected n) new → Size p × Allowed p l × (length tile ≡ tileLength p)
+-- where a correction is made, the size is a size, the kind takes the slope and the tile has its length
+taken : {kind : Kind} {p l n : ℕ} {tile sheet new : List ℕ} → CorrectTold kind p l tile sheet (corrected n) new → Size p × Takes kind p l × (length tile ≡ tileLength p)
 taken (CorrectTold.corrects h j c) = admitted-well h
 
 -- and each record has its place in the text
-placed : {p l n : ℕ} {tile sheet new : List ℕ} → CorrectTold p l tile sheet (corrected n) new → (k : ℕ) → k < records sheet → Placed p sheet k
+placed : {kind : Kind} {p l n : ℕ} {tile sheet new : List ℕ} → CorrectTold kind p l tile sheet (corrected n) new → (k : ℕ) → k < records sheet → Placed p sheet k
 placed (CorrectTold.corrects h j c) k q = judged-sound j k q .1
 
-module _ (p l n : ℕ) (tile sheet new : List ℕ) (told : CorrectTold p l tile sheet (corrected n) new) where
+module _ (kind : Kind) (p l n : ℕ) (tile sheet new : List ℕ) (told : CorrectTold kind p l tile sheet (corrected n) new) where
   -- the good tile that is added
   abbrev pub change : List ℕ
   change = changed told .change
@@ -99,7 +101,7 @@ module _ (p l n : ℕ) (tile sheet new : List ℕ) (told : CorrectTold p l tile 
     where
       zero : Blank p (cell p change)
       zero =
-          lines-blank p l (Column (p - 3)) (Column (p - 2)) (cell p change) (allowed-slope p l (taken told .0) (taken told .1)) (inl tt) (omega (arith, large)) (omega (arith, large))
+          lines-blank p l (Column (p - 3)) (Column (p - 2)) (cell p change) (taken-slope kind p l (taken told .0) (taken told .1)) (inl tt) (omega (arith, large)) (omega (arith, large))
           (changed told .written .good) (cell-padded p change) (within-off p (Column (p - 3)) (Column (p - 2)) (cell p change) (cell-padded p change) (λ i j hi hj d q.
           let text : j < p - 3 = omega arith in change-at i j hi text ∙ none i j hi text))
 
@@ -119,34 +121,45 @@ module _ (p l n : ℕ) (tile sheet new : List ℕ) (told : CorrectTold p l tile 
 
   -- REPAIR gives the same answer after the sheet as before; its tile is the earlier one with the change added, and where it succeeds that is
   -- the one written afresh from its text corrected by the differences
-  pub repair-after : (said said′ : answer.Said) (fixed fixed′ : List ℕ) → RepairTold p l tile said fixed → RepairTold p l new said′ fixed′
+  pub repair-after : (said said′ : answer.Said) (fixed fixed′ : List ℕ) → RepairTold kind p l tile said fixed → RepairTold kind p l new said′ fixed′
       → (said′ ≡ said) × (fixed′ ≡ xored fixed change)
       × (((m : ℕ) → said ≡ answer.refused m → ⊥) → Writes p l (xored (textOf p fixed) (differences p sheet)) fixed′)
   repair-after said said′ fixed fixed′ before after =
-      let same = repair-told-once p l new said′ said fixed′ (xored fixed change) after
-      (rw (← changed told .becomes) at (repair-carried p l change (changed told .written .good) before)) in
+      let same = repair-told-once kind p l new said′ said fixed′ (xored fixed change) after
+      (rw (← changed told .becomes) at (repair-carried kind p l change (changed told .written .good) before)) in
       (same .0, same .1, λ d. let g = repaired-good d before in rw (← same .1) at (afresh fixed (g .0) (g .1)))
 
   -- so whoever writes that text, over whatever tile, has the same tile
-  pub write-after : (said said′ wrote : answer.Said) (fixed fixed′ lent afresh′ : List ℕ) → RepairTold p l tile said fixed
-      → ((m : ℕ) → said ≡ answer.refused m → ⊥) → RepairTold p l new said′ fixed′ → length lent ≡ tileLength p
-      → WriteTold p l (xored (textOf p fixed) (differences p sheet)) lent wrote afresh′ → (wrote ≡ answer.done) × (afresh′ ≡ fixed′)
+  pub write-after : (said said′ wrote : answer.Said) (fixed fixed′ lent afresh′ : List ℕ) → RepairTold kind p l tile said fixed
+      → ((m : ℕ) → said ≡ answer.refused m → ⊥) → RepairTold kind p l new said′ fixed′ → length lent ≡ tileLength p
+      → WriteTold kind p l (xored (textOf p fixed) (differences p sheet)) lent wrote afresh′ → (wrote ≡ answer.done) × (afresh′ ≡ fixed′)
   write-after said said′ wrote fixed fixed′ lent afresh′ before well after e written =
       let w = repair-after said said′ fixed fixed′ before after .2 well in
       let t = taken told in
-      write-told-once p l (xored (textOf p fixed) (differences p sheet)) lent wrote answer.done afresh′ fixed′ written
+      write-told-once kind p l (xored (textOf p fixed) (differences p sheet)) lent wrote answer.done afresh′ fixed′ written
       (WriteTold.writes (admits (t .0) (t .1) (e, xored-length (textOf p fixed) (differences p sheet) ∙ text-length p fixed)) w)
 
   -- FILL answers after the sheet as before, whatever lines are named, and the tiles that it leaves differ by the change
-  pub fill-after : (a b : Line) (said said′ : answer.Said) (filled filled′ : List ℕ) → FillTold p l tile a b said filled → FillTold p l new a b said′ filled′
+  pub fill-after : (a b : Line) (said said′ : answer.Said) (filled filled′ : List ℕ) → FillTold kind p l tile a b said filled → FillTold kind p l new a b said′ filled′
       → (said′ ≡ said) × (filled′ ≡ xored filled change)
   fill-after a b said said′ filled filled′ before after =
-      fill-told-once p l new a b said′ said filled′ (xored filled change) after
-      (rw (← changed told .becomes) at (fill-carried p l change (changed told .written .good) before))
+      fill-told-once kind p l new a b said′ said filled′ (xored filled change) after
+      (rw (← changed told .becomes) at (fill-carried kind p l change (changed told .written .good) before))
+
+  -- WHAT IS DOUBTFUL before the sheet is doubtful after it, for repair and for fill, and is left as it is
+  pub doubtful-after : (said : answer.Said) (fixed fixed′ : List ℕ) → RepairTold kind p l tile (answer.refused 8) fixed → RepairTold kind p l new said fixed′
+      → (said ≡ answer.refused 8) × (fixed′ ≡ new)
+  doubtful-after said fixed fixed′ before after =
+      let same = repair-after (answer.refused 8) said fixed fixed′ before after .0 in (same, repair-refused (rw same at after))
+
+  pub fillings-after : (a b : Line) (said : answer.Said) (filled filled′ : List ℕ) → FillTold kind p l tile a b (answer.refused 8) filled
+      → FillTold kind p l new a b said filled′ → (said ≡ answer.refused 8) × (filled′ ≡ new)
+  fillings-after a b said filled filled′ before after =
+      let same = fill-after a b (answer.refused 8) said filled filled′ before after .0 in (same, fill-refused (rw same at after))
 
   -- WHAT IS READ once the sheet is made and the tile repaired: at a place whose records follow each other, what the last one put
-  pub last-is : (said said′ read : answer.Said) (fixed fixed′ page text : List ℕ) (i j k : ℕ) → RepairTold p l tile said fixed
-      → ((m : ℕ) → said ≡ answer.refused m → ⊥) → RepairTold p l new said′ fixed′ → length page ≡ textLength p → ReadTold p l fixed′ page read text
+  pub last-is : (said said′ read : answer.Said) (fixed fixed′ page text : List ℕ) (i j k : ℕ) → RepairTold kind p l tile said fixed
+      → ((m : ℕ) → said ≡ answer.refused m → ⊥) → RepairTold kind p l new said′ fixed′ → length page ≡ textLength p → ReadTold kind p l fixed′ page read text
       → Follows sheet i j (textByte p (textOf p fixed) i j) → Last sheet i j k
       → (read ≡ answer.done) × (textByte p text i j ≡ isOf sheet k)
   last-is said said′ read fixed fixed′ page text i j k before well after e-page reading follows last =
@@ -155,15 +168,25 @@ module _ (p l n : ℕ) (tile sheet new : List ℕ) (told : CorrectTold p l tile 
       let at = placed told k (last .within) in
       let hi : i < p - 1 = omega (arith, at .0, last .names .0) in
       let hj : j < p - 3 = omega (arith, at .1, last .names .1) in
-      let r = read-told-once p l fixed′ page read answer.done text (textOf p fixed′) reading (ReadTold.reads (admits (t .0) (t .1) (w .size, e-page)) (w .good)) in (
+      let r = read-told-once kind p l fixed′ page read answer.done text (textOf p fixed′) reading (ReadTold.reads (admits (t .0) (t .1) (w .size, e-page)) (w .good)) in (
         r .0,
         ap (λ (u : List ℕ). textByte p u i j) (r .1 ∙ w .has) ∙ xored-letter p (textOf p fixed) (differences p sheet) i j (text-length p fixed) hi hj
             ∙ ap (λ (x : ℕ). textByte p (textOf p fixed) i j ⊕ x) (differences-at p sheet i j hi hj) ∙ last-made sheet i j (textByte p (textOf p fixed) i j) follows k last,
       )
 
 -- the empty sheet is answered by 0 records, and the tile stays as it is
-pub correct-empty : (p l : ℕ) (tile : List ℕ) (said : Said) (new : List ℕ) → Size p → Allowed p l → length tile ≡ tileLength p
-    → CorrectTold p l tile [] said new → (said ≡ corrected 0) × (new ≡ tile)
-correct-empty p l tile said new s w e told =
-    let said-is = correct-takes p l tile [] said new s w e refl (λ k h. omega arith) told in
-    (said-is, cancelled p l 0 tile [] new (rw said-is at told) (λ i j hi hj. given-none [] i j))
+pub correct-empty : (kind : Kind) (p l : ℕ) (tile : List ℕ) (said : Said) (new : List ℕ) → Size p → Takes kind p l → length tile ≡ tileLength p
+    → CorrectTold kind p l tile [] said new → (said ≡ corrected 0) × (new ≡ tile)
+correct-empty kind p l tile said new s w e told =
+    let said-is = correct-takes kind p l tile [] said new s w e refl (λ k h. omega arith) told in
+    (said-is, cancelled kind p l 0 tile [] new (rw said-is at told) (λ i j hi hj. given-none [] i j))
+
+-- BOTH KINDS give one answer, and leave the same bytes, where the slope is allowed
+pub correct-alike : {j k : Kind} {p l : ℕ} {tile sheet x y : List ℕ} {s t : Said} → Allowed p l → CorrectTold j p l tile sheet s x → CorrectTold k p l tile sheet t y
+    → (s ≡ t) × (x ≡ y)
+correct-alike {j} {k} {p} {l} {tile} {sheet} {x} {y} {s} {t} allowed a b = correct-told-once k p l tile sheet s t x y (either a) b
+  where
+    either : {s : Said} {x : List ℕ} → CorrectTold j p l tile sheet s x → CorrectTold k p l tile sheet s x
+    either (CorrectTold.refuses h) = CorrectTold.refuses (admitted-alike allowed h)
+    either (CorrectTold.faulty h f) = CorrectTold.faulty (admitted-alike allowed h) f
+    either (CorrectTold.corrects h f c) = CorrectTold.corrects (admitted-alike allowed h) f c

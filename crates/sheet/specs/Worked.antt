@@ -9,13 +9,14 @@ use Rattle.xor.specs.Sum.{xorBelow}
 use Rattle.code.specs.Tabulate.{tabulate}
 use Rattle.code.specs.Tile.{tileLength, place, cell, sum, textFrom, textOf, Writes, xored}
 use Rattle.residue.specs.Test.{upTo}
-use Rattle.size.specs.Shams.{size-5, at-5-2}
+use Rattle.code.specs.declared.Kind.{Kind}
+use Rattle.size.specs.Shams.{size-5}
 use Rattle.promise.specs.Answer as answer
 use Rattle.promise.specs.Calls.{RepairTold}
 use Rattle.promise.specs.Admit.{admits}
 use Rattle.promise.specs.Decide.{Test, so, both, some, below, equal, at-most, same, good, not-good, outside, differing, filling, more-bytes, one-byte, none, no-line, uncrossed, no-filling, Each, each, numbered}
 use Rattle.promise.specs.Worked as worked
-use Rattle.promise.specs.Worked.{Exactly, exactly, zeros, text-1, tile-1, tile-4, writing, tested, mends, filled, admitted-tile}
+use Rattle.promise.specs.Worked.{Exactly, exactly, taken-5-2, zeros, text-1, tile-1, tile-4, writing, tested, mends, filled, admitted-tile}
 use Rattle.sheet.specs.Sheet.{records, byteOf, Marked, rowOf, columnOf, given, differences, Placed, SoundBelow}
 use Rattle.sheet.specs.Answer.{corrected}
 use Rattle.sheet.specs.Calls.{sound, CorrectTold}
@@ -53,11 +54,12 @@ pub data Case : Type 0 where
   of-tile : worked.Case → Case
   corrects : List ℕ → List ℕ → List ℕ → List ℕ → answer.Said → List ℕ → Case
 
--- what a case claims
+-- what a case claims, of either kind
 abbrev pub Claim : Case → Type 0
 Claim (of-tile c) = worked.Claim c
 Claim (corrects tile sheet change new said fixed) =
-    Writes 5 2 (differences 5 sheet) change × Exactly (CorrectTold 5 2 tile sheet) (corrected (records sheet)) new × Exactly (RepairTold 5 2 new) said fixed
+    Writes 5 2 (differences 5 sheet) change
+    × ((k : Kind) → Exactly (CorrectTold k 5 2 tile sheet) (corrected (records sheet)) new × Exactly (RepairTold k 5 2 new) said fixed)
 
 -- cases of tiles alone, before others
 abbrev after : List worked.Case → List Case → List Case
@@ -91,9 +93,11 @@ case-tested (corrects tile sheet change new said fixed) =
     (both (writing (differences 5 sheet) change) (both (same new (xored tile change)) (tested (worked.repairs new said fixed)))))) (λ t.
     let made = t .1 .1 in (
       made .0,
-      exactly (CorrectTold 5 2 tile sheet) (correct-told-once 5 2 tile sheet) (corrected (records sheet)) new
-          (CorrectTold.corrects (admits size-5 at-5-2 (t .0)) (sound (t .1 .0 .0) (t .1 .0 .1)) (record { change = change; written = made .0; becomes = made .1 .0 })),
-      made .1 .1,
+      λ k. (
+        exactly (CorrectTold k 5 2 tile sheet) (correct-told-once k 5 2 tile sheet) (corrected (records sheet)) new
+            (CorrectTold.corrects (admits size-5 (taken-5-2 k) (t .0)) (sound (t .1 .0 .0) (t .1 .0 .1)) (record { change = change; written = made .0; becomes = made .1 .0 })),
+        made .1 .1 k,
+      ),
     ))
 
 -- what the tests show

@@ -2,6 +2,7 @@
 // need not be sound: what is made is the change that the sheet asks for, the same in every tile.
 use cells::place;
 use chain::checks;
+use code::Kind;
 use code::Line;
 use promise::judge_tile;
 use size::Judgement;
@@ -130,10 +131,10 @@ fn add_byte(p: usize, s: usize, i: usize, j: usize, x: u8, sums: &mut [u8; 257])
 }
 
 // Corrects a tile, sound or damaged, by a sheet, which is judged as a whole while nothing is changed yet.
-pub fn correct(p: usize, l: usize, tile: &mut [u8], sheet: &[u8]) -> Corrected
-    ensures { λ r. ⌜ CorrectTold p l (now (tile .entry)) (now (sheet .entry)) (correctedSaid r) (now (tile .exit)) ⌝ }
+pub fn correct(kind: Kind, p: usize, l: usize, tile: &mut [u8], sheet: &[u8]) -> Corrected
+    ensures { λ r. ⌜ CorrectTold kind p l (now (tile .entry)) (now (sheet .entry)) (correctedSaid r) (now (tile .exit)) ⌝ }
 {
-    match judge_tile(p, l, tile.len()) {
+    match judge_tile(kind, p, l, tile.len()) {
         Judgement::Refused(refusal) => Corrected::Refused(refusal, 0),
         Judgement::Taken => match judge(p, sheet) {
             Corrected::Refused(refusal, at) => Corrected::Refused(refusal, at),

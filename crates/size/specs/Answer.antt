@@ -1,6 +1,8 @@
 -- WHAT A READER MUST BELIEVE: what the size and slope calls promise (SPEC 2.4 and 9.2). Assumes nothing.
 use Prim.Native.Nat.{ℕ}
-use Rattle.residue.specs.Size.{Size, Allowed}
+use Rattle.residue.specs.Size.{Size}
+use Rattle.code.specs.Kind.{Takes}
+use Rattle.code.specs.declared.Kind.{Kind}
 use Rattle.house.specs.House.{HouseSlope}
 use Rattle.size.specs.Refusal.{numberOf}
 use Rattle.size.specs.declared.House.{House}
@@ -28,8 +30,8 @@ pub data HouseTold (p : ℕ) : Said → Type 0 where
   given : {l : ℕ} → Size p → HouseSlope p l → HouseTold p (slope l)
   no-size : (Size p → ⊥) → HouseTold p (refused 1)
 
--- SPEC 2.4 and 9.2: refused 1 where p is no size, otherwise refused 2 where l is not allowed there, otherwise all is well
-pub data Judged (p l : ℕ) : Said → Type 0 where
-  taken : Size p → Allowed p l → Judged p l well
-  no-size : (Size p → ⊥) → Judged p l (refused 1)
-  no-slope : Size p → (Allowed p l → ⊥) → Judged p l (refused 2)
+-- SPEC 2.4 and 9.2: refused 1 where p is no size, otherwise refused 2 where the kind does not take l there, otherwise all is well
+pub data Judged (k : Kind) (p l : ℕ) : Said → Type 0 where
+  taken : Size p → Takes k p l → Judged k p l well
+  no-size : (Size p → ⊥) → Judged k p l (refused 1)
+  no-slope : Size p → (Takes k p l → ⊥) → Judged k p l (refused 2)

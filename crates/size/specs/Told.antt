@@ -1,7 +1,9 @@
 -- What an answer tells of the size and the slope that were asked about. Assumes nothing.
 use Prim.Native.Nat.{ℕ}
 use Rattle.residue.specs.Size.{Size, Allowed}
-use Rattle.size.specs.Answer.{slope, well, refused, HouseTold, given, no-size, Judged, taken, no-slope}
+use Rattle.code.specs.Kind.{Takes, allowed-taken}
+use Rattle.code.specs.declared.Kind.{Kind}
+use Rattle.size.specs.Answer.{Said, slope, well, refused, HouseTold, given, no-size, Judged, taken, no-slope}
 
 -- what is given a house slope is a size, and what is refused one is none
 pub given-size : {p l : ℕ} → HouseTold p (slope l) → Size p
@@ -11,16 +13,22 @@ pub refused-size : {p n : ℕ} → HouseTold p (refused n) → Size p → ⊥
 refused-size (no-size f) s = f s
 
 -- the house slope is taken, and what has none is refused with the same number whatever the slope
-pub house-taken : {p l : ℕ} → HouseTold p (slope l) → Judged p l well
-house-taken (given s h) = taken s (h .allowed)
+pub house-taken : {k : Kind} {p l : ℕ} → HouseTold p (slope l) → Judged k p l well
+house-taken {k} {p} {l} (given s h) = taken s (allowed-taken k p l (h .allowed))
 
-pub house-refused : {p l n : ℕ} → HouseTold p (refused n) → Judged p l (refused n)
+pub house-refused : {k : Kind} {p l n : ℕ} → HouseTold p (refused n) → Judged k p l (refused n)
 house-refused (no-size f) = no-size f
 
--- what is judged well is a size with a slope that it allows, and what is refused is not
-pub judged-well : {p l : ℕ} → Judged p l well → Size p × Allowed p l
+-- what is judged well is a size with a slope that the kind takes, and what is refused is not
+pub judged-well : {k : Kind} {p l : ℕ} → Judged k p l well → Size p × Takes k p l
 judged-well (taken s a) = (s, a)
 
-pub judged-no : {p l n : ℕ} → Judged p l (refused n) → Size p × Allowed p l → ⊥
+pub judged-no : {k : Kind} {p l n : ℕ} → Judged k p l (refused n) → Size p × Takes k p l → ⊥
 judged-no (no-size f) t = f (t .0)
 judged-no (no-slope s f) t = f (t .1)
+
+-- WHERE A SLOPE IS ALLOWED every kind is judged alike
+pub judged-alike : {j k : Kind} {p l : ℕ} {s : Said} → Allowed p l → Judged j p l s → Judged k p l s
+judged-alike {j} {k} {p} {l} a (taken s t) = taken s (allowed-taken k p l a)
+judged-alike a (no-size f) = no-size f
+judged-alike {j} {k} {p} {l} a (no-slope s f) = absurd (f (allowed-taken j p l a))

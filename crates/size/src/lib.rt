@@ -1,7 +1,10 @@
 // Judges sizes and slopes, for every call that is told some; the house slope of a size; the numbers for no.
+use code::Kind;
 ghost use mathlib.Core.Path.{_≡_};
+ghost use Prim.Native.Nat.{_+_, _≤_};
 ghost use Rattle.residue.specs.Size.{Size, Allowed};
 ghost use Rattle.code.specs.Says.{Says};
+ghost use Rattle.code.specs.Kind.{Takes};
 ghost use Rattle.size.specs.Answer.{HouseTold, houseSaid, Judged, judgementSaid};
 ghost use Rattle.size.specs.Refusal.{numberOf};
 
@@ -14,6 +17,7 @@ pub enum Refusal {
     Damaged,
     BadMark,
     CutShort,
+    Doubtful,
 }
 
 // The number of a refusal (SPEC 9.1).
@@ -28,6 +32,7 @@ pub fn number(refusal: Refusal) -> usize
         Refusal::Damaged => 5,
         Refusal::BadMark => 6,
         Refusal::CutShort => 7,
+        Refusal::Doubtful => 8,
     }
 }
 
@@ -63,21 +68,31 @@ pub fn takes_size(p: usize) -> bool
     }
 }
 
-// Does the size p allow the slope l (SPEC 2.2)? Its powers leave all remainders but 0 where none from the first to the (p - 2)-th is 1.
-// A p that is no size because it is too small or too large allows none.
-fn allows(p: usize, l: usize) -> bool
-    ensures { λ r. ⌜ (Size p → Says r (Allowed p l)) ⌝ }
+// Is l from 2 to p - 2?
+fn between(p: usize, l: usize) -> bool
+    ensures { λ r. ⌜ Says r ((2 ≤ l) × (l + 2 ≤ p)) ⌝ }
 {
-    if p < 5 {
-        return false;
-    }
-    if 257 < p {
+    if p < 4 {
         return false;
     }
     if l < 2 {
         return false;
     }
     if p - 2 < l {
+        return false;
+    }
+    true
+}
+
+// Does the size p allow the slope l (SPEC 2.2)? Its powers leave all remainders but 0 where none from the first to the (p - 2)-th is 1.
+// A p that is too large for a size allows none.
+fn allows(p: usize, l: usize) -> bool
+    ensures { λ r. ⌜ (Size p → Says r (Allowed p l)) ⌝ }
+{
+    if 257 < p {
+        return false;
+    }
+    if !between(p, l) {
         return false;
     }
     let mut power = l;
@@ -92,23 +107,33 @@ fn allows(p: usize, l: usize) -> bool
     true
 }
 
-// What p and l are judged to be.
+// Does a kind take the slope l at the size p (SPEC 2.5)?
+fn takes(kind: Kind, p: usize, l: usize) -> bool
+    ensures { λ r. ⌜ (Size p → Says r (Takes kind p l)) ⌝ }
+{
+    match kind {
+        Kind::New => allows(p, l),
+        Kind::Old => between(p, l),
+    }
+}
+
+// What a kind, p and l are judged to be.
 pub enum Judgement {
     Taken,
     Refused(Refusal),
 }
 
-// Judges a size and a slope: refusal 1 where p is no size, then refusal 2 where p does not allow l. The house slope is known from the
-// table, so that no power of it is looked at.
-pub fn judge(p: usize, l: usize) -> Judgement
-    ensures { λ r. ⌜ Judged p l (judgementSaid r) ⌝ }
+// Judges a size and a slope: refusal 1 where p is no size, then refusal 2 where the kind does not take l there. The house slope is known
+// from the table, so that no power of it is looked at.
+pub fn judge(kind: Kind, p: usize, l: usize) -> Judgement
+    ensures { λ r. ⌜ Judged kind p l (judgementSaid r) ⌝ }
 {
     match house_slope(p) {
         House::Refused(refusal) => Judgement::Refused(refusal),
         House::Slope(house) => {
             if l == house {
                 Judgement::Taken
-            } else if allows(p, l) {
+            } else if takes(kind, p, l) {
                 Judgement::Taken
             } else {
                 Judgement::Refused(Refusal::BadSlope)
@@ -117,11 +142,11 @@ pub fn judge(p: usize, l: usize) -> Judgement
     }
 }
 
-// Is p a size that allows the slope l?
-pub fn takes_slope(p: usize, l: usize) -> bool
-    ensures { λ r. ⌜ Says r (Size p × Allowed p l) ⌝ }
+// Is p a size at which a kind takes the slope l?
+pub fn takes_slope(kind: Kind, p: usize, l: usize) -> bool
+    ensures { λ r. ⌜ Says r (Size p × Takes kind p l) ⌝ }
 {
-    match judge(p, l) {
+    match judge(kind, p, l) {
         Judgement::Taken => true,
         Judgement::Refused(_) => false,
     }

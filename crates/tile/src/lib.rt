@@ -10,3 +10,6 @@ pub use writer::write;
 
 // A line of a tile: a row or a column, by its number from 0.
 pub type Line = code::Line;
+
+// The kind of a tile: new, with a slope that is allowed, or old, with any from 2 to p - 2.
+pub type Kind = code::Kind;

@@ -1,4 +1,5 @@
-// Answers as words, and numbers as lines: what the C library's calls have in common.
+// Answers as words, and numbers as lines and kinds: what the C library's calls have in common.
+use code::Kind;
 use code::Line;
 use promise::Outcome;
 use size::Judgement;
@@ -75,7 +76,7 @@ pub fn of_outcome(answer: Outcome) -> u64
 pub fn version() -> u64
     ensures { λ r. ⌜ r ≡ numbered.version ⌝ }
 {
-    300
+    400
 }
 
 // The line that a number names.
@@ -86,5 +87,22 @@ pub fn line(n: usize) -> Line
         Line::Row(n)
     } else {
         Line::Column(n - 0x8000)
+    }
+}
+
+// The kind that a number stands for: 1 is old, and every other one new, the stricter of the two.
+pub fn kind(n: usize) -> Kind
+    ensures { λ r. ⌜ r ≡ spec.tileKind n ⌝ }
+{
+    if n == 1 { Kind::Old } else { Kind::New }
+}
+
+// The number of a kind.
+pub fn kind_number(kind: Kind) -> u64
+    ensures { λ r. ⌜ r ≡ spec.kindNumber kind ⌝ }
+{
+    match kind {
+        Kind::New => 0,
+        Kind::Old => 1,
     }
 }

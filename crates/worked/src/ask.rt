@@ -6,16 +6,17 @@ use script::question::Told;
 // `held` may be changed by a call, `lent` is only read.
 pub fn ask(told: Told, held: &mut [u8], lent: &[u8]) {
     let name = told.name;
+    let kind = told.kind;
     let p = told.p;
     let l = told.l;
     let first = told.first;
     let second = told.second;
     match name {
-        b'w' => answer::outcome(tile::write(p, l, lent, held)),
-        b'r' => answer::outcome(tile::read(p, l, lent, held)),
-        b'm' => answer::repaired(tile::repair(p, l, held)),
-        b'f' => answer::outcome(tile::fill(p, l, held, first, second)),
-        b'c' => answer::corrected(sheet::correct(p, l, held, lent)),
-        _ => look(name, p, l, held),
+        b'w' => answer::outcome(tile::write(kind, p, l, lent, held)),
+        b'r' => answer::outcome(tile::read(kind, p, l, lent, held)),
+        b'm' => answer::repaired(tile::repair(kind, p, l, held)),
+        b'f' => answer::outcome(tile::fill(kind, p, l, held, first, second)),
+        b'c' => answer::corrected(sheet::correct(kind, p, l, held, lent)),
+        _ => look(name, kind, p, l, held),
     }
 }

@@ -7,6 +7,7 @@ use native.Mathlib.Omega.{arith}
 use lib.ListN.{length}
 use Rattle.code.specs.Tile.{cell, sum, textLength, Writes, Fills}
 use Rattle.code.specs.Place.{text-is}
+use Rattle.code.specs.declared.Kind.{Kind}
 use Rattle.code.specs.declared.Line.the-variants.{Column}
 use Rattle.size.specs.Answer as size
 use Rattle.cells.specs.Text.{Laid}
@@ -25,9 +26,9 @@ laid-writes p l text x y z large e laid f = record {
 }
 
 -- the text is laid in, and the check columns settle the sums
-pub ends-written : (p l : ℕ) (A B : ℕ → ℕ) (text x y z : List ℕ) → Admitted p l (BothLengths p x text) size.well → Laid p text x y
+pub ends-written : (k : Kind) (p l : ℕ) (A B : ℕ → ℕ) (text x y z : List ℕ) → Admitted k p l (BothLengths p x text) size.well → Laid p text x y
     → ((t : ℕ) → t < p → A t ≡ sum p 1 (cell p y) t) → ((t : ℕ) → t < p → B t ≡ sum p l (cell p y) t)
-    → LinesSettled p l (Column (p - 3)) (Column (p - 2)) A B y z → WriteTold p l text x done z
-ends-written p l A B text x y z a laid ha hb settled =
+    → LinesSettled p l (Column (p - 3)) (Column (p - 2)) A B y z → WriteTold k p l text x done z
+ends-written k p l A B text x y z a laid ha hb settled =
     let h = admitted-well a in
     writes a (laid-writes p l text x y z (omega (arith, h .0 .low)) (h .2 .1) laid (settled-fill p l (Column (p - 3)) (Column (p - 2)) A B y z (laid .size ∙ h .2 .0) ha hb settled))

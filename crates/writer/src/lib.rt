@@ -1,6 +1,7 @@
 // Writing a text as a tile, and reading it.
 use cells::text;
 use chain::checks;
+use code::Kind;
 use promise::Outcome;
 use promise::judge_text;
 use size::Judgement;
@@ -11,10 +12,10 @@ ghost use Rattle.promise.specs.Answer.{outcomeSaid};
 ghost use Rattle.promise.specs.Calls.{WriteTold, ReadTold};
 
 // Writes the good tile that has the text: lays the text into its columns and fills the two check columns.
-pub fn write(p: usize, l: usize, text: &[u8], tile: &mut [u8]) -> Outcome
-    ensures { λ r. ⌜ WriteTold p l (now (text .entry)) (now (tile .entry)) (outcomeSaid r) (now (tile .exit)) ⌝ }
+pub fn write(kind: Kind, p: usize, l: usize, text: &[u8], tile: &mut [u8]) -> Outcome
+    ensures { λ r. ⌜ WriteTold kind p l (now (text .entry)) (now (tile .entry)) (outcomeSaid r) (now (tile .exit)) ⌝ }
 {
-    match judge_text(p, l, tile.len(), text.len()) {
+    match judge_text(kind, p, l, tile.len(), text.len()) {
         Judgement::Refused(refusal) => Outcome::Refused(refusal),
         Judgement::Taken => {
             text::lay(p, text, tile);
@@ -27,10 +28,10 @@ pub fn write(p: usize, l: usize, text: &[u8], tile: &mut [u8]) -> Outcome
 }
 
 // Reads a good tile's text.
-pub fn read(p: usize, l: usize, tile: &[u8], text: &mut [u8]) -> Outcome
-    ensures { λ r. ⌜ ReadTold p l (now (tile .entry)) (now (text .entry)) (outcomeSaid r) (now (text .exit)) ⌝ }
+pub fn read(kind: Kind, p: usize, l: usize, tile: &[u8], text: &mut [u8]) -> Outcome
+    ensures { λ r. ⌜ ReadTold kind p l (now (tile .entry)) (now (text .entry)) (outcomeSaid r) (now (text .exit)) ⌝ }
 {
-    match judge_text(p, l, tile.len(), text.len()) {
+    match judge_text(kind, p, l, tile.len(), text.len()) {
         Judgement::Refused(refusal) => Outcome::Refused(refusal),
         Judgement::Taken => {
             if is_good(p, l, tile) {

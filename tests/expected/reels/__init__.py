@@ -9,6 +9,8 @@ GROUPS = {
     "more bytes than are taken": lengths.too_long,
     "each state of a tile": tiles.each_state,
     "the worked tiles": tiles.worked_tiles,
+    "the worked tiles that are old": tiles.worked_old_tiles,
+    "every choice of bytes of a line, old": tiles.every_choice,
     "one hurt byte in every cell": tiles.one_byte,
     "one hurt byte of a line, and two": tiles.one_or_two,
     "two hurt bytes": tiles.two_bytes,

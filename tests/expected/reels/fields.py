@@ -4,7 +4,7 @@ from random import Random
 
 from expected.reel import LONGEST, record
 from expected.reels.made import DAMAGE, Case, damaged, good, hurt, one_byte_hurt
-from expected.sizes import HOUSE, SIZES, SLOPES
+from expected.sizes import HOUSE, NEW, OLD, OLD_SLOPES, SIZES, SLOPES
 from expected.tile import tile_length
 
 LARGEST = 251  # the largest size that fits: 62,510 bytes
@@ -26,11 +26,13 @@ def each_size():
 
 
 def each_slope():
-    """Every slope that is allowed at 11, and at 31, with each kind of damage on one reel."""
-    for p in (11, 31):
-        for l in SLOPES[p]:
-            reel = b"".join(record(n, p, l, damaged(kind, p, l)) for n, kind in enumerate(DAMAGE))
-            yield Case(f"slope {l} at {p}", reel, f"{len(DAMAGE) - 1} {p} {l} refused 5\nend {len(DAMAGE)}")
+    """Every slope that is allowed at 11, and at 31, with each kind of damage on one reel, of new tiles and of old ones; and the slopes that
+    are not allowed, of old tiles, also at 7 and 17."""
+    slopes = [(kind, p, l) for kind in (NEW, OLD) for p in (11, 31) for l in SLOPES[p]]
+    slopes += [(OLD, p, l) for p in (7, 11, 17, 31) for l in OLD_SLOPES[p]]
+    for kind, p, l in slopes:
+        reel = b"".join(record(n, p, l, damaged(damage, p, l), kind) for n, damage in enumerate(DAMAGE))
+        yield Case(f"{kind.name}, slope {l} at {p}", reel, f"{len(DAMAGE) - 1} {p} {l} refused 5\nend {len(DAMAGE)}")
     assert SLOPES[11] == [2, 6, 7, 8]
 
 
@@ -49,6 +51,12 @@ def largest():
     yield Case("the longest line", reel, f"4294967295 {p} {steepest} cell 249 249\nend 1")
     for kind in ("two columns", "two rows", "a row with a column"):
         yield Case(f"{kind} at {p}", record(1, p, l, damaged(kind, p, l)), f"1 {p} {l} refused 5\nend 1")
+    steepest = OLD_SLOPES[p][-1]
+    for name, tile, answer in (
+        ("a cell", hurt(good(p, steepest), p, ("cell", 249, 249)), "cell 249 249"),
+        ("two rows", damaged("two rows", p, steepest), "refused 5"),
+    ):
+        yield Case(f"{name} of an old tile at {p}", record(1, p, steepest, tile, OLD), f"1 {p} {steepest} {answer}\nend 1")
     garbage = Random(251).randbytes(tile_length(p))
     yield Case(f"garbage at {p}", record(1, p, l, garbage), f"1 {p} {l} refused 5\nend 1")
     yield Case(f"garbage at {p}, and a byte", record(1, p, l, garbage) + b"\xd5", "stopped 7 62510")
@@ -61,6 +69,7 @@ def above_largest():
         yield Case(f"size 257 with {behind} bytes", header + bytes(behind), "stopped 7 0")
     yield Case("size 257 behind a tile", record(1, 5, 2, bytes(16)) + header + bytes(99), "1 5 2 clean\nstopped 7 26")
     yield Case("size 257 with slope 2", record(1, 257, 2, bytes(9)), "stopped 2 0")
+    yield Case("an old record of size 257 with slope 2", record(1, 257, 2, bytes(9), OLD), "stopped 7 0")
 
 
 def numbers():

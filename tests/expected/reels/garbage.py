@@ -2,9 +2,9 @@
 
 from random import Random
 
-from expected.reel import HEADER, MARK, WHOLE_REEL, record
-from expected.reels.made import Case, joined
-from expected.sizes import HOUSE
+from expected.reel import HEADER, KINDS, WHOLE_REEL, record
+from expected.reels.made import Case, joined, mixed
+from expected.sizes import HOUSE, NEW, OLD, OLD_SLOPES
 from expected.tile import tile_length
 
 LENGTHS = (*range(1, 41), 100, 255, 256, 257, 1000, 4095, 4096, 4097, 10000, 32768, 65535, 65536, 65537)
@@ -31,14 +31,14 @@ def repeated():
         some = bytes.fromhex(repeat)
         for length in LENGTHS:
             reel = (some * length)[:length]
-            # Behind the mark repeated, the size is D55D hex.
-            ends = "stopped 1 0" if some == MARK and HEADER <= length <= 65536 else ends_without_mark(length)
+            # Behind a mark repeated, the size is D55D hex, or 5DD5.
+            ends = "stopped 1 0" if some in KINDS and HEADER <= length <= 65536 else ends_without_mark(length)
             yield Case(f"{length} bytes {repeat}", reel, ends)
 
 
 def complemented():
     """Sound reels with every byte complemented."""
-    reels = {"the whole reel of SPEC 10": WHOLE_REEL, "five records": joined([5, 7, 11, 13, 47]), "the largest": joined([251])}
+    reels = {"the whole reel of SPEC 10": WHOLE_REEL, "five records": mixed([5, 7, 11, 13, 47]), "the largest": joined([251])}
     for name, reel in reels.items():
         yield Case(f"{name}, complemented", bytes(255 - byte for byte in reel), "stopped 6 0")
 
@@ -47,16 +47,20 @@ def behind_a_mark():
     """Pseudo-random bytes behind a right mark, and a right size."""
     drawn = Random(2)
     for attempt in range(40):
-        yield Case(f"a mark and pseudo-random bytes, {attempt}", MARK + drawn.randbytes(98))
-        yield Case(f"a mark, a size and pseudo-random bytes, {attempt}", MARK + b"\x00\x05" + drawn.randbytes(96))
+        for mark, kind in KINDS.items():
+            named = f"{kind.name}, {attempt}"
+            yield Case(f"a mark and pseudo-random bytes, {named}", mark + drawn.randbytes(98))
+            yield Case(f"a mark, a size and pseudo-random bytes, {named}", mark + b"\x00\x05" + drawn.randbytes(96))
 
 
 def behind_headers():
     """Right headers, and pseudo-random bytes for tiles; once of all values, once of bits alone."""
     drawn = Random(3)
-    for p in (5, 7, 11, 13, 17, 31, 101):
+    tried = [(NEW, p, HOUSE[p]) for p in (5, 7, 11, 13, 17, 31, 101)]
+    tried += [(OLD, p, OLD_SLOPES[p][0]) for p in (7, 11, 13, 17, 31, 101)]
+    for kind, p, l in tried:
         for attempt in range(3):
             tiles = [drawn.randbytes(tile_length(p)) for _ in range(5)]
             for name, kept in (("bytes", 0xFF), ("bits", 0x01)):
-                reel = b"".join(record(n, p, HOUSE[p], [byte & kept for byte in tile]) for n, tile in enumerate(tiles))
-                yield Case(f"pseudo-random {name} in tiles of size {p}, {attempt}", reel, "end 5")
+                reel = b"".join(record(n, p, l, [byte & kept for byte in tile], kind) for n, tile in enumerate(tiles))
+                yield Case(f"{kind.name}, pseudo-random {name} in tiles of size {p}, {attempt}", reel, "end 5")

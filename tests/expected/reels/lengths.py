@@ -1,7 +1,7 @@
 """Reels by their length: the empty one, one cut short at every place, and those at and above the most that `list` takes (SPEC 8.2)."""
 
 from expected.reel import HEADER, LONGEST, WHOLE_LISTING, WHOLE_REEL, record
-from expected.reels.made import Case, good, joined, record_length
+from expected.reels.made import Case, good, joined, mixed, record_length
 from expected.sizes import HOUSE, SIZES
 
 # Which sizes come first on a reel of 65,536 bytes that ends well. Sizes 5 and 7 follow.
@@ -45,13 +45,13 @@ def short_reels():
 
 
 def every_cut():
-    """Three records, cut at every length."""
-    reel = joined([5, 7, 5])
+    """Three records, cut at every length: new ones, and such of both kinds."""
     ends = {0: "end 0", 26: "end 1", 72: "end 2", 98: "end 3"}  # the lengths at which a record ends
-    assert len(reel) == 98
-    for length in range(99):
-        start = max(end for end in ends if end <= length)
-        yield Case(f"three records cut to {length} bytes", reel[:length], ends.get(length, f"stopped 7 {start}"))
+    for name, reel in {"three new records": joined([5, 7, 5]), "three records": mixed([5, 7, 5])}.items():
+        assert len(reel) == 98
+        for length in range(99):
+            start = max(end for end in ends if end <= length)
+            yield Case(f"{name} cut to {length} bytes", reel[:length], ends.get(length, f"stopped 7 {start}"))
 
 
 def most_bytes():

@@ -5,7 +5,7 @@ from typing import NamedTuple
 
 from expected.reel import HEADER, record
 from expected.sample import change_of, numbers, sample
-from expected.sizes import HOUSE
+from expected.sizes import HOUSE, NEW, OLD, OLD_SLOPES
 from expected.tile import place, places, text_length, tile_length, write
 
 
@@ -32,8 +32,8 @@ DAMAGE = {
 
 @cache
 def good(p, l, seed=1):
-    """A tile written from pseudo-random text."""
-    answer, tile = write(p, l, sample(seed, text_length(p)), [0] * tile_length(p))
+    """A tile written from pseudo-random text. An old one takes every slope, and is like a new one where the slope is allowed (SPEC 2.5)."""
+    answer, tile = write(OLD, p, l, sample(seed, text_length(p)), [0] * tile_length(p))
     assert answer == "done"
     return bytes(tile)
 
@@ -69,9 +69,18 @@ def record_length(p):
     return HEADER + tile_length(p)
 
 
+def made_record(n, p, l, kind):
+    """The n-th record of a sound reel: the damage is of one kind after the other."""
+    damage = list(DAMAGE)[n % len(DAMAGE)]
+    return record(n, p, l, damaged(damage, p, l, seed=n % 60), kind)
+
+
 def joined(sizes):
-    """A sound reel of records of these sizes, numbered from 0, their damage of one kind after the other."""
-    kinds = list(DAMAGE)
-    return b"".join(
-        record(n, p, HOUSE[p], damaged(kinds[n % len(kinds)], p, HOUSE[p], seed=n % 60)) for n, p in enumerate(sizes)
-    )
+    """A sound reel of new records of these sizes, numbered from 0."""
+    return b"".join(made_record(n, p, HOUSE[p], NEW) for n, p in enumerate(sizes))
+
+
+def mixed(sizes):
+    """The same with every second record an old one, at the largest slope that is not allowed, where there is one."""
+    slopes = {p: (OLD_SLOPES[p] or [HOUSE[p]])[-1] for p in sizes}
+    return b"".join(made_record(n, p, *((HOUSE[p], NEW) if n % 2 else (slopes[p], OLD))) for n, p in enumerate(sizes))

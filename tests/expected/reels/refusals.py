@@ -3,36 +3,45 @@ faults (SPEC 9.2)."""
 
 from itertools import product
 
-from expected.reel import HEADER, MARK, record
-from expected.reels.made import Case, good, joined
+from expected.reel import HEADER, record
+from expected.reels.made import Case, good, joined, mixed
+from expected.sizes import NEW, OLD, Kind
 
-PLACES = {"first": b"", "behind one": joined([5]), "behind three": joined([5, 7, 11])}
-MARKS = ("D4 5D", "D5 5C", "D4 5C", "00 5D", "D5 00", "00 00", "5D D5", "FF FF", "C3 3C")
+PLACES = {"first": b"", "behind one": joined([5]), "behind three": mixed([7, 5, 11])}
+MARKS = ("D4 5D", "D5 5C", "D5 5E", "D4 5C", "00 5D", "D5 00", "00 00", "FF FF", "C3 3C", "5C D5", "5D D4", "5D D6", "5D 5D", "D5 D5")
 SIZES = (0, 1, 2, 3, 4, 6, 8, 9, 15, 25, 253, 255, 256, 258, 261, 263, 1285, 65535)  # 261, 263, 1285: the low byte is a size
-# At each size slopes below 2 and from p-1 on, some of them with the low byte of an allowed one, and slopes whose powers miss.
+# At each size slopes below 2 and from p-1 on, some of them with the low byte of an allowed one; and for new tiles slopes whose powers miss.
 SLOPES = {
-    5: (0, 1, 4, 5, 6, 255, 256, 258, 512, 65535),
-    7: (0, 1, 2, 4, 6, 7, 259, 768, 65535),
-    11: (0, 1, 3, 4, 5, 9, 10, 11, 258, 65535),
-    17: (0, 1, 2, 4, 8, 9, 13, 15, 16, 17, 65535),
+    NEW: {
+        5: (0, 1, 4, 5, 6, 255, 256, 258, 512, 65535),
+        7: (0, 1, 2, 4, 6, 7, 259, 768, 65535),
+        11: (0, 1, 3, 4, 5, 9, 10, 11, 258, 65535),
+        17: (0, 1, 2, 4, 8, 9, 13, 15, 16, 17, 65535),
+    },
+    OLD: {
+        5: (0, 1, 4, 5, 258, 65535),
+        7: (0, 1, 6, 7, 258, 512, 65535),
+        17: (0, 1, 16, 17, 258, 65535),
+    },
 }
 
 
 def lone_faults():
     """The name of each fault, the number for it, and a record that has this fault alone. No other record stands behind it: the
     bytes of a tile do, so that there is something to go on to."""
-    sound = record(7, 5, 2, good(5, 2))
-    for length in range(1, HEADER):
-        yield f"{length} bytes of a header", 7, sound[:length]
     for mark in MARKS:
         yield f"mark {mark}", 6, record(7, 5, 2, good(5, 2), mark=bytes.fromhex(mark))
-    for p in SIZES:
-        yield f"size {p}", 1, record(7, p, 2, good(5, 2))
-    for p, slopes in SLOPES.items():
-        for l in slopes:
-            yield f"slope {l} at {p}", 2, record(7, p, l, bytes((p - 1) ** 2))
-    for length in range(len(sound) - HEADER):
-        yield f"{length} bytes of a tile", 7, sound[: HEADER + length]
+    for kind in Kind:
+        sound = record(7, 5, 2, good(5, 2), kind)
+        for length in range(1, HEADER):
+            yield f"{kind.name}, {length} bytes of a header", 7, sound[:length]
+        for p in SIZES:
+            yield f"{kind.name}, size {p}", 1, record(7, p, 2, good(5, 2), kind)
+        for p, slopes in SLOPES[kind].items():
+            for l in slopes:
+                yield f"{kind.name}, slope {l} at {p}", 2, record(7, p, l, bytes((p - 1) ** 2), kind)
+        for length in range(len(sound) - HEADER):
+            yield f"{kind.name}, {length} bytes of a tile", 7, sound[: HEADER + length]
 
 
 def each_refusal():
@@ -49,14 +58,14 @@ def each_refusal():
 def several_faults():
     """Every choice of faults in one record: wrong mark 6, wrong size 1, wrong slope 2, a body cut short 7; the first of them in this
     order is given. A header cut short comes before all."""
-    for marked, sized, sloped, whole in product((True, False), repeat=4):
+    for kind, marked, sized, sloped, whole in product(Kind, *[(True, False)] * 4):
         p = 5 if sized else 9
-        faulty = record(7, p, 2 if sloped else 0, good(5, 2), mark=MARK if marked else b"\xd5\x00")
+        faulty = record(7, p, 2 if sloped else 0, good(5, 2), kind, mark=None if marked else b"\xd5\x00")
         faults = [(marked, 6), (sized, 1), (sloped, 2), (whole, 7)]
         numbers = [number for sound, number in faults if not sound]
         if not numbers:
             continue
-        name = "faults " + " ".join(map(str, numbers))
+        name = f"{kind.name}, faults " + " ".join(map(str, numbers))
         for place, before in PLACES.items():
             end = f"stopped {numbers[0]} {len(before)}"
             yield Case(f"{place}, {name}", before + (faulty if whole else faulty[:13]), end)

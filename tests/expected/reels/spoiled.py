@@ -2,9 +2,14 @@
 
 from random import Random
 
-from expected.reels.made import Case, joined
+from expected.reels.made import Case, joined, mixed
 
-SOUND = {"small": joined([5, 7, 5, 11, 7, 5]), "mixed": joined([11, 5, 13, 7, 17, 5, 19]), "large": joined([5, 61, 7])}
+SOUND = {
+    "small": joined([5, 7, 5, 11, 7, 5]),
+    "mixed": joined([11, 5, 13, 7, 17, 5, 19]),
+    "large": joined([5, 61, 7]),
+    "old and new": mixed([7, 5, 11, 7, 17, 13, 7]),
+}
 TRIES = 100
 
 
@@ -25,12 +30,13 @@ def byte_changed():
 
 
 def header_byte_changed():
-    """Each byte of the second record's header becomes another one, in several ways."""
-    reel, start = SOUND["small"], 26
-    for at in range(start, start + 10):
-        for change in (0x01, 0x02, 0x04, 0x10, 0x80, 0xFF):
-            byte = reel[at] ^ change
-            yield Case(f"header byte {at} changed to {byte:02X}", reel[:at] + bytes([byte]) + reel[at + 1 :])
+    """Each byte of a record's header becomes another one, in several ways: of a new record, and of an old one."""
+    for name, start in (("small", 26), ("old and new", 46 + 26)):
+        reel = SOUND[name]
+        for at in range(start, start + 10):
+            for change in (0x01, 0x02, 0x04, 0x10, 0x80, 0x88, 0xFF):
+                byte = reel[at] ^ change
+                yield Case(f"{name}, header byte {at} changed to {byte:02X}", reel[:at] + bytes([byte]) + reel[at + 1 :])
 
 
 def cut():

@@ -10,6 +10,9 @@ line-requires c κs = search needs
 line-requires-2 : tie.Need-line-requires-2
 line-requires-2 c κs = search needs
 
+kind-requires : tie.Need-kind-requires
+kind-requires c κs = search needs
+
 fill-requires : tie.Need-fill-requires
 fill-requires c κs = search needs
 
@@ -22,11 +25,12 @@ same-length c = search needs
 returns : tie.Need-returns
 returns c =
     let filled = c .before .before .before in
-    let second = filled .before in
+    let kind = filled .before .before in
+    let second = kind .before in
     let first = second .before in
-    record { said = outcomeSaid (filled .fill .result); right = rw (← (first .line .ensures), ← (second .line2 .ensures)) (filled .fill .ensures); is = c .of-outcome .ensures }
+    record { said = outcomeSaid (filled .fill .result); right = rw (← (kind .kind .ensures), ← (first .line .ensures), ← (second .line2 .ensures)) (filled .fill .ensures); is = c .of-outcome .ensures }
 
 pub cf-fill-spec : {M : Type 1} → statement M
 cf-fill-spec =
     tie.close
-    (tie.spec line-requires line-requires-2 fill-requires of-outcome-requires same-length returns)
+    (tie.spec line-requires line-requires-2 kind-requires fill-requires of-outcome-requires same-length returns)

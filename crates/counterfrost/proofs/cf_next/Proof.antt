@@ -11,6 +11,9 @@ next-requires c κs = search needs
 enum-known-tile : tie.Need-enum-known-tile
 enum-known-tile c = search needs
 
+kind-number-requires : tie.Need-kind-number-requires
+kind-number-requires c κs = search needs
+
 done-requires : tie.Need-done-requires
 done-requires c κs = search needs
 
@@ -28,18 +31,23 @@ refused-requires c κs = search needs
 
 returns : tie.Need-returns
 returns c =
-    let said = c .before .before in
-    record { said = tile _ _ _ _; right = (rw (said .tile .given .1) at (said .before .before .next .ensures), refl, refl, refl, refl); is = c .done .ensures }
+    let numbered = c .before in
+    let said = numbered .before .before in
+    record {
+      said = tile _ _ _ _ _;
+      right = (rw (said .tile .given .1) at (said .before .before .next .ensures), numbered .kind-number .ensures, refl, refl, refl, refl);
+      is = c .done .ensures;
+    }
 
 returns-2 : tie.Need-returns-2
 returns-2 c =
     let said = c .before in
-    record { said = end; right = (rw (said .enum-told .given .1) at (said .before .before .next .ensures), refl, refl, refl, refl); is = c .end .ensures }
+    record { said = end; right = (rw (said .enum-told .given .1) at (said .before .before .next .ensures), refl, refl, refl, refl, refl); is = c .end .ensures }
 
 returns-3 : tie.Need-returns-3
 returns-3 c =
     let said = c .before .before in
-    record { said = refused _ _; right = (rw (said .refusal .given .1) at (said .before .before .next .ensures), refl, refl, refl, refl); is = c .refused .ensures }
+    record { said = refused _ _; right = (rw (said .refusal .given .1) at (said .before .before .next .ensures), refl, refl, refl, refl, refl); is = c .refused .ensures }
 
 pub cf-next-spec : {M : Type 1} → statement M
 cf-next-spec =
@@ -47,6 +55,7 @@ cf-next-spec =
     (tie.spec
     next-requires
     enum-known-tile
+    kind-number-requires
     done-requires
     enum-told
     end-requires

@@ -4,6 +4,9 @@ use Rattle.size.specs.Answer.{judgementSaid}
 use Rattle.counterfrost.proofs.cf_takes.Statement.{statement}
 use Rattle.counterfrost.proofs.cf_takes.Tie as tie
 
+kind-requires : tie.Need-kind-requires
+kind-requires c κs = search needs
+
 judge-requires : tie.Need-judge-requires
 judge-requires c κs = search needs
 
@@ -13,7 +16,7 @@ of-judgement-requires c κs = search needs
 returns : tie.Need-returns
 returns c =
     let judged = c .before .judge in
-    record { said = judgementSaid (judged .result); right = judged .ensures; is = c .of-judgement .ensures }
+    record { said = judgementSaid (judged .result); right = rw (← (c .before .before .kind .ensures)) (judged .ensures); is = c .of-judgement .ensures }
 
 pub cf-takes-spec : {M : Type 1} → statement M
-cf-takes-spec = tie.close (tie.spec judge-requires of-judgement-requires returns)
+cf-takes-spec = tie.close (tie.spec kind-requires judge-requires of-judgement-requires returns)

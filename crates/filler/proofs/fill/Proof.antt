@@ -6,7 +6,7 @@ use Rattle.code.specs.Says.{says-true, says-false}
 use Rattle.code.specs.Held.{held}
 use Rattle.promise.specs.Calls.{refuses, no-line}
 use Rattle.promise.specs.Admit.{admitted-well, slope-of}
-use Rattle.filler.specs.Filled.{ends-filled, ends-unfilled}
+use Rattle.filler.specs.Filled.{ends-filled, ends-unfilled, ends-doubtful}
 use Rattle.filler.proofs.fill.Statement.{statement}
 use Rattle.filler.proofs.fill.Tie as tie
 
@@ -28,23 +28,34 @@ solve-requires c κs =
     let a = rw (told .enum-told .given .1) at (told .before .before .judge-tile .ensures) in
     let w = admitted-well a in
     let h = says-true (c .before .before .has-both .ensures) (c .before .if1 .taken) in
-    (slope-of a, (w .1 .reach, (w .0 .high, w .2, omega arith, omega arith)))
+    (slope-of a, (w .1, (w .0 .high, w .2, omega arith, omega arith)))
+
+enum-told-2 : tie.Need-enum-told-2
+enum-told-2 c = search needs
+
+enum-told-3 : tie.Need-enum-told-3
+enum-told-3 c = search needs
+
+enum-told-4 : tie.Need-enum-told-4
+enum-told-4 c = search needs
 
 add-line-requires : tie.Need-add-line-requires
 add-line-requires c κs =
-    let inside = c .before .before .before .before .before .before .before in
-    let judged = inside .before .before .before .before in
-    let w = admitted-well (rw (inside .before .before .enum-told .given .1) at (judged .judge-tile .ensures)) in
-    let h = says-true (inside .before .has-both .ensures) (inside .if1 .taken) in
+    let solved = c .before .before .before .before .before .before in
+    let asked = solved .before .before .before in
+    let judged = asked .before .before .before in
+    let w = admitted-well (rw (asked .before .enum-told .given .1) at (judged .judge-tile .ensures)) in
+    let h = says-true (asked .has-both .ensures) (solved .before .before .if1 .taken) in
     (omega (arith, w .0 .low), w .0 .high, w .2, omega arith)
 
 add-line-requires-2 : tie.Need-add-line-requires-2
 add-line-requires-2 c κs =
     let changed = c .before .before .before .before in
-    let inside = changed .before .before .before .before .before .before .before .before in
-    let judged = inside .before .before .before .before in
-    let w = admitted-well (rw (inside .before .before .enum-told .given .1) at (judged .judge-tile .ensures)) in
-    let h = says-true (inside .before .has-both .ensures) (inside .if1 .taken) in
+    let solved = changed .before .before .before .before .before .before .before in
+    let asked = solved .before .before .before in
+    let judged = asked .before .before .before in
+    let w = admitted-well (rw (asked .before .enum-told .given .1) at (judged .judge-tile .ensures)) in
+    let h = says-true (asked .has-both .ensures) (solved .before .before .if1 .taken) in
     (omega (arith, w .0 .low), w .0 .high, changed .add-line .ensures .1 ∙ w .2, omega arith)
 
 returns : tie.Need-returns
@@ -55,33 +66,45 @@ same-length c = search needs
 
 returns-2 : tie.Need-returns-2
 returns-2 c =
-    let changed = c .before .before .before .before .before .before .before in
-    let chosen = changed .before .before .before in
-    let solved = chosen .before .before .before in
+    let solved = c .before .before .before .before in
     let asked = solved .before .before .before in
     let judged = asked .before .before .before in
     let start = judged .before .before in
-    let filling = solved .solve in
-    let one = changed .add-line in
-    let two = c .before .before .add-line2 in
-    ends-filled (start .args .p) (start .args .l) (start .args .first) (start .args .second) (held (filling .result .first)) (held (filling .result .second)) (start .args .tile .now) _ _
-    (rw (asked .before .enum-told .given .1) at (judged .judge-tile .ensures)) (says-true (asked .has-both .ensures) (solved .before .before .if1 .taken)) (rw (chosen .if2 .taken) at (filling .ensures))
-    (one .ensures .1) (two .ensures .1) (one .ensures .0) (two .ensures .0)
+    ends-unfilled (start .args .kind) (start .args .p) (start .args .l) (start .args .first) (start .args .second) (held (solved .solve .result .first)) (held (solved .solve .result .second)) (start .args .tile .now)
+    (rw (asked .before .enum-told .given .1) at (judged .judge-tile .ensures)) (says-true (asked .has-both .ensures) (solved .before .before .if1 .taken)) (rw (c .enum-told2 .given .1) at (solved .solve .ensures))
 
 same-length-2 : tie.Need-same-length-2
 same-length-2 c = search needs
 
 returns-3 : tie.Need-returns-3
 returns-3 c =
-    let solved = c .before .before .before in
+    let solved = c .before .before .before .before in
     let asked = solved .before .before .before in
     let judged = asked .before .before .before in
     let start = judged .before .before in
-    ends-unfilled (start .args .p) (start .args .l) (start .args .first) (start .args .second) (start .args .tile .now)
-    (rw (asked .before .enum-told .given .1) at (judged .judge-tile .ensures)) (says-true (asked .has-both .ensures) (solved .before .before .if1 .taken)) (rw (c .if2 .left) at (solved .solve .ensures))
+    ends-doubtful (start .args .kind) (start .args .p) (start .args .l) (start .args .first) (start .args .second) (held (solved .solve .result .first)) (held (solved .solve .result .second)) (start .args .tile .now)
+    (rw (asked .before .enum-told .given .1) at (judged .judge-tile .ensures)) (says-true (asked .has-both .ensures) (solved .before .before .if1 .taken)) (rw (c .enum-told3 .given .1) at (solved .solve .ensures))
+
+same-length-3 : tie.Need-same-length-3
+same-length-3 c = search needs
 
 returns-4 : tie.Need-returns-4
-returns-4 c = no-line (rw (c .before .before .enum-told .given .1) at (c .before .before .before .before .judge-tile .ensures)) (says-false (c .before .has-both .ensures) (c .if1 .left))
+returns-4 c =
+    let changed = c .before .before .before .before .before .before .before in
+    let chosen = changed .before .before .before in
+    let solved = chosen .before .before .before .before in
+    let asked = solved .before .before .before in
+    let judged = asked .before .before .before in
+    let start = judged .before .before in
+    let filling = solved .solve in
+    let one = changed .add-line in
+    let two = c .before .before .add-line2 in
+    ends-filled (start .args .kind) (start .args .p) (start .args .l) (start .args .first) (start .args .second) (held (filling .result .first)) (held (filling .result .second)) (start .args .tile .now)
+    (rw (asked .before .enum-told .given .1) at (judged .judge-tile .ensures)) (says-true (asked .has-both .ensures) (solved .before .before .if1 .taken)) _ _ (rw (chosen .enum-told4 .given .1) at (filling .ensures))
+    (one .ensures .1) (two .ensures .1) (one .ensures .0) (two .ensures .0)
+
+returns-5 : tie.Need-returns-5
+returns-5 c = no-line (rw (c .before .before .enum-told .given .1) at (c .before .before .before .before .judge-tile .ensures)) (says-false (c .before .has-both .ensures) (c .if1 .left))
 
 pub fill-spec : {M : Type 1} → statement M
 fill-spec =
@@ -92,6 +115,9 @@ fill-spec =
     enum-told
     has-both-requires
     solve-requires
+    enum-told-2
+    enum-told-3
+    enum-told-4
     add-line-requires
     add-line-requires-2
     returns
@@ -99,4 +125,6 @@ fill-spec =
     returns-2
     same-length-2
     returns-3
-    returns-4)
+    same-length-3
+    returns-4
+    returns-5)

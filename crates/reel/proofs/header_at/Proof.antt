@@ -1,6 +1,6 @@
 -- `reel::header_at` meets its contract. Assumes nothing.
 use Prim.Native.Nat.{_+_}
-use Rattle.reel.specs.Told.{mark-says}
+use Rattle.reel.specs.Mark.{mark-read}
 use borrow.Author.Needs.{needs}
 use Rattle.reel.proofs.header_at.Statement.{statement}
 use Rattle.reel.proofs.header_at.Tie as tie
@@ -16,6 +16,9 @@ shared-slice-read-number-2 c = search needs
 
 number-requires : tie.Need-number-requires
 number-requires c κs = search needs
+
+mark-of-requires : tie.Need-mark-of-requires
+mark-of-requires c κs = search needs
 
 add-number-2 : tie.Need-add-number-2
 add-number-2 c = search needs
@@ -78,10 +81,12 @@ returns : tie.Need-returns
 returns c =
     let number = c .before .before .before .before .before in
     let slope = number .before .before .before in
-    let size = slope .before .before .before in
-    let start = size .before .before .before .before in
-    let byte = size .before .before .before .shared-slice-known .given in (
-      mark-says (start .args .reel .now) (start .args .at) (size .number .result) (size .number .ensures) (byte (start .args .at) .fits) (byte (start .args .at + 1) .fits),
+    let mark = slope .before .before .before in
+    let first = mark .before in
+    let start = first .before .before .before .before in
+    let byte = first .before .before .before .shared-slice-known .given in (
+      mark-read (start .args .reel .now) (start .args .at) (first .number .result) (first .number .ensures) (byte (start .args .at) .fits) (byte (start .args .at + 1) .fits)
+          (mark .mark-of .result) (mark .mark-of .ensures),
       ((slope .number2 .ensures, number .number3 .ensures), c .long-number .ensures),
     )
 
@@ -93,6 +98,7 @@ header-at-spec =
     add-number
     shared-slice-read-number-2
     number-requires
+    mark-of-requires
     add-number-2
     shared-slice-read-number-3
     add-number-3

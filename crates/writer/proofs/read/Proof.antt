@@ -3,7 +3,7 @@ use native.Mathlib.Omega.{arith}
 use borrow.Author.Needs.{needs}
 use Rattle.code.specs.Says.{says-true, says-false}
 use Rattle.promise.specs.Calls.{refuses, not-good, reads}
-use Rattle.promise.specs.Admit.{admitted-well}
+use Rattle.promise.specs.Admit.{admitted-well, slope-of}
 use Rattle.writer.proofs.read.Statement.{statement}
 use Rattle.writer.proofs.read.Tie as tie
 
@@ -18,8 +18,9 @@ enum-told c = search needs
 
 is-good-requires : tie.Need-is-good-requires
 is-good-requires c κs =
-    let w = admitted-well (rw (c .enum-told .given .1) at (c .before .before .judge-text .ensures)) in
-    record { prime = w .0 .prime; high = w .0 .high; positive = omega (arith, w .1 .low); slope = omega (arith, w .1 .high); size = w .2 .0 }
+    let a = rw (c .enum-told .given .1) at (c .before .before .judge-text .ensures) in
+    let w = admitted-well a in
+    record { prime = w .0 .prime; high = w .0 .high; positive = omega (arith, slope-of a .low); slope = omega (arith, slope-of a .high); size = w .2 .0 }
 
 take-requires : tie.Need-take-requires
 take-requires c κs =

@@ -35,8 +35,9 @@ line-sums-requires-2 : tie.Need-line-sums-requires-2
 line-sums-requires-2 c κs =
     let laid = c .before .before .before .before .before in
     let judged = laid .before .before .before .before in
-    let w = admitted-well (rw (laid .before .before .enum-told .given .1) at (judged .judge-text .ensures)) in
-    record { prime = w .0 .prime; high = w .0 .high; positive = omega (arith, w .1 .low); slope = omega (arith, w .1 .high); size = laid .lay .ensures .size ∙ w .2 .0 }
+    let a = rw (laid .before .before .enum-told .given .1) at (judged .judge-text .ensures) in
+    let w = admitted-well a in
+    record { prime = w .0 .prime; high = w .0 .high; positive = omega (arith, slope-of a .low); slope = omega (arith, slope-of a .high); size = laid .lay .ensures .size ∙ w .2 .0 }
 
 settle-requires : tie.Need-settle-requires
 settle-requires c κs =
@@ -68,7 +69,7 @@ returns-2 c =
     let laid = first .before .before .before .before in
     let judged = laid .before .before .before .before in
     let start = judged .before .before .before in
-    ends-written (start .args .p) (start .args .l) (held (first .line-sums .result)) (held (second .line-sums2 .result)) (start .args .text .now) (start .args .tile .now) _ _
+    ends-written (start .args .kind) (start .args .p) (start .args .l) (held (first .line-sums .result)) (held (second .line-sums2 .result)) (start .args .text .now) (start .args .tile .now) _ _
     (rw (laid .before .before .enum-told .given .1) at (judged .judge-text .ensures)) (laid .lay .ensures) (first .line-sums .ensures) (second .line-sums2 .ensures) (settled .settle .ensures)
 
 pub write-spec : {M : Type 1} → statement M

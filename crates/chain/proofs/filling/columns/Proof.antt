@@ -1,5 +1,6 @@
 -- `chain::filling::columns` meets its contract. Assumes nothing.
 use mathlib.Core.Path.{sym}
+use mathlib.Core.Logic.{inl}
 use native.Mathlib.Omega.{arith}
 use borrow.Author.Needs.{needs}
 use Rattle.chain.specs.Cases.{columns-close}
@@ -15,7 +16,7 @@ paired-requires c κs =
       start .pre .0,
       (
         (omega arith, omega arith, omega arith),
-        columns-close (start .args .p) (start .args .l) _ _ (start .pre .0) (start .args .u) (start .args .v) (omega arith) (omega arith) (c .if1 .left) (start .pre .1 .3),
+        (inl tt, columns-close (start .args .p) (start .args .l) _ _ (start .pre .0) (start .args .u) (start .args .v) (omega arith) (omega arith) (c .if1 .left) (start .pre .1 .3)),
       ),
     )
 

@@ -24,7 +24,7 @@ returns : tie.Need-returns
 returns c =
     let start = c .before .before .before .before in
     solved-rows (start .args .p) (start .args .l) (c .before .before .before .inverse .result) (start .args .r) (start .args .s) (held (start .args .a .now)) (held (start .args .b .now))
-    (held (c .before .before .turned .result)) (held (c .columns .result .first)) (held (c .columns .result .second)) (c .columns .result .exists) (c .before .before .before .inverse .ensures .0) (c .before .before .turned .ensures) (c .columns .ensures)
+    (held (c .before .before .turned .result)) (held (c .columns .result .first)) (held (c .columns .result .second)) (c .before .before .before .inverse .ensures .0) (c .before .before .turned .ensures) (c .columns .ensures)
 
 pub rows-spec : {M : Type 1} → statement M
 rows-spec = tie.close (tie.spec inverse-requires turned-requires columns-requires returns)

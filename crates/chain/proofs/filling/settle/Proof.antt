@@ -64,8 +64,7 @@ returns-2 c =
     let e = c .exchanged .ensures in
     let crossed = c .before .crossed in
     rw (with-first .first .given .1, with-second .second2 .given .1, e .0, e .1, e .2)
-    (solved-either (start .args .p) (start .args .l) _ _ (held (start .args .a .now)) (held (start .args .b .now)) (held (crossed .result .first)) (held (crossed .result .second))
-    (crossed .result .exists) (crossed .ensures))
+    (solved-either (start .args .p) (start .args .l) _ _ (held (start .args .a .now)) (held (start .args .b .now)) (held (crossed .result .first)) (held (crossed .result .second)) (crossed .ensures))
 
 returns-3 : tie.Need-returns-3
 returns-3 c =

@@ -32,7 +32,7 @@ returns c =
     let summed-again = c .before .before .before in
     let start = summed-again .before .before .before in
     solved-sums (start .args .p) (start .args .l) (start .args .first) (start .args .second) (held (summed-again .before .line-sums .result)) (held (summed-again .line-sums2 .result))
-    (held (c .settle .result .first)) (held (c .settle .result .second)) _ _ (c .settle .result .exists)
+    (held (c .settle .result .first)) (held (c .settle .result .second)) _ _
     (summed-again .before .line-sums .ensures) (summed-again .line-sums2 .ensures) (c .settle .ensures)
 
 pub solve-spec : {M : Type 1} → statement M

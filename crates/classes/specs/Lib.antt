@@ -1,0 +1,2 @@
+-- One turn of the loop that sums a class.
+pub mod Step
