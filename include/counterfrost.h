@@ -16,7 +16,7 @@
  *   there are is told by cf_takes. docs/SPEC.md has the rules.
  *
  * NEW TILES AND OLD ONES
- *   Each call that is told p and l is told the kind of the tile before them. Take CF_NEW for all that you write: such a tile has one of the
+ *   Whoever tells a call p and l tells it the kind of the tile before them. Take CF_NEW for all that you write: such a tile has one of the
  *   slopes that are allowed at p, and a lost row with a lost column has one filling there or none. CF_OLD is for tiles that were printed in
  *   earlier years, and takes every slope from 2 to p-2. Any number but 1 counts as CF_NEW, the stricter one. A reel carries the kind with
  *   each tile, and cf_next gives it.

@@ -28,8 +28,9 @@ use Rattle.code.specs.declared.Line.the-variants.{Row, Column}
 use Rattle.code.specs.Held.{held}
 use Rattle.walk.specs.Sums.{Sums}
 use Rattle.search.specs.Column.{Shifted}
-use Rattle.chain.specs.Solve.{SettledBy, SettledSome, Solved, none, one, several, Closes}
+use Rattle.chain.specs.Solve.{SettledBy, SettledSome, Solved, none, one, several, CrossedMany, no-crossed, one-crossed, several-crossed, Closes}
 use Rattle.chain.specs.declared.filling.Fillings.{Fillings}
+use Rattle.chain.specs.declared.filling.Fillings.the-variants as fillings
 
 -- the sums of both slopes have one total, also as arrays hold them
 pub held-totals : (p l : ℕ) (T : Cells) (a b : List ℕ) → Sums p 1 T a → Sums p l T b → xorBelow p (held a) ≡ xorBelow p (held b)
@@ -144,3 +145,14 @@ module _ (p l : ℕ) (A B : ℕ → ℕ) (S : Slope p l) where
 
     pub classes-none : (ClassesAgree p l n A B s t → ⊥) → SettledSome p l (Column t) (Row s) A B → ⊥
     classes-none d c = d (settles-classes p l n s t A B (c .by) S O (omega arith) (omega arith) (c .settles) (c .off))
+
+-- a column with a row, where there is none, where there is one, and where there are several
+module _ {p l t s : ℕ} {A B x y : ℕ → ℕ} where
+  pub none-solved : CrossedMany p l t s A B fillings.None → Solved p l (Column t) (Row s) A B x y fillings.None
+  none-solved (no-crossed f) = none f
+
+  pub several-solved : CrossedMany p l t s A B fillings.Several → Solved p l (Column t) (Row s) A B x y fillings.Several
+  several-solved (several-crossed d c) = several d c
+
+pub one-reaches : {p l t s : ℕ} {A B : ℕ → ℕ} → CrossedMany p l t s A B fillings.One → ReachesAll p l × (A (line p 1 s t) ≡ B (line p l s t))
+one-reaches (one-crossed all e) = (all, e)

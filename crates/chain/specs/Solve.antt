@@ -4,6 +4,7 @@ use Prim.Native.Nat.{ℕ, _+_, _-_, _*_, _%_, _≤_, _<_}
 use native.Mathlib.Decide.{ℕ-discrete}
 use native.Mathlib.Omega.{arith}
 use Rattle.xor.specs.Xor.{_⊕_, xors, self, zero-r}
+use Rattle.residue.specs.Power.{ReachesAll}
 use Rattle.code.specs.Slope.{Slope, slope-inverse}
 use Rattle.code.specs.Tile.{Cells, line}
 use Rattle.code.specs.Sums.{Padded, plus}
@@ -39,6 +40,12 @@ pub data Solved (p l : ℕ) (a b : Line) (A B x y : ℕ → ℕ) : Fillings → 
   none : (SettledSome p l a b A B → ⊥) → Solved p l a b A B x y fillings.None
   one : Sure p l a b → SettledBy p l a b A B x y → Solved p l a b A B x y fillings.One
   several : (Sure p l a b → ⊥) → SettledSome p l a b A B → Solved p l a b A B x y fillings.Several
+
+-- how many there are in column t with row s. Where it is one, the slope reaches all, and the two sums through the crossing agree
+pub data CrossedMany (p l t s : ℕ) (A B : ℕ → ℕ) : Fillings → Type 0 where
+  no-crossed : (SettledSome p l (Column t) (Row s) A B → ⊥) → CrossedMany p l t s A B fillings.None
+  one-crossed : ReachesAll p l → A (line p 1 s t) ≡ B (line p l s t) → CrossedMany p l t s A B fillings.One
+  several-crossed : (Sure p l (Column t) (Row s) → ⊥) → SettledSome p l (Column t) (Row s) A B → CrossedMany p l t s A B fillings.Several
 
 -- how many hops there are between a column and the line b
 abbrev pub hopsOf : ℕ → Line → ℕ

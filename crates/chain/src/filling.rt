@@ -20,7 +20,7 @@ ghost use Rattle.code.specs.OneLine as law;
 ghost use Rattle.code.specs.Fillings.{Sure};
 ghost use Rattle.code.specs.declared.Line.the-variants.{Row, Column};
 ghost use Rattle.code.specs.Held.{held};
-ghost use Rattle.chain.specs.Solve.{Solved, Closes};
+ghost use Rattle.chain.specs.Solve.{Solved, CrossedMany, Closes};
 
 // How many fillings there are.
 pub enum Fillings {
@@ -66,10 +66,18 @@ fn settle(
     match first {
         Line::Row(r) => match second {
             Line::Row(s) => rows(p, l, r, s, a, b),
-            Line::Column(t) => exchanged(crossed(kind, p, l, t, r, a, b)),
+            Line::Column(t) => exchanged(crossed(
+                crossed_fillings(kind, p, l, t, r, a, b),
+                p,
+                l,
+                t,
+                r,
+                a,
+                b,
+            )),
         },
         Line::Column(t) => match second {
-            Line::Row(s) => crossed(kind, p, l, t, s, a, b),
+            Line::Row(s) => crossed(crossed_fillings(kind, p, l, t, s, a, b), p, l, t, s, a, b),
             Line::Column(v) => columns(p, l, t, v, a, b),
         },
     }
@@ -148,10 +156,9 @@ fn one_column(p: usize, l: usize, c: usize, a: &[u8; 257], b: &[u8; 257]) -> Fil
     }
 }
 
-// A column with a row. The powers of a new tile's slope reach all, and so may those of an old one's; where they do not, there are several
-// fillings or none.
+// A column with a row, which have so many fillings.
 fn crossed(
-    kind: Kind,
+    many: Fillings,
     p: usize,
     l: usize,
     t: usize,
@@ -160,48 +167,77 @@ fn crossed(
     b: &[u8; 257],
 ) -> Filling
     requires { ⌜ Slope p l ⌝ }
-    requires { ⌜ Takes kind p l ⌝ }
+    requires { ⌜ CrossedMany p l t s (held (now a)) (held (now b)) many ⌝ }
     requires { ⌜ (p ≤ 257) × (t < p - 1) × (s < p - 1) × (xorBelow p (held (now a)) ≡ xorBelow p (held (now b))) ⌝ }
     ensures { λ r. ⌜ Solved p l (Column t) (Row s) (held (now (a .entry))) (held (now (b .entry))) (held (r .first)) (held (r .second)) (r .many) ⌝ }
 {
+    match many {
+        Fillings::None => unfilled(Fillings::None),
+        Fillings::Several => unfilled(Fillings::Several),
+        Fillings::One => paired(
+            Pair {
+                p: p,
+                l: l,
+                column: t,
+                line: Line::Row(s),
+            },
+            a,
+            b,
+        ),
+    }
+}
+
+// How many fillings a column with a row has. The powers of a new tile's slope reach all, and so may those of an old one's; where they do
+// not, there are several or none.
+fn crossed_fillings(
+    kind: Kind,
+    p: usize,
+    l: usize,
+    t: usize,
+    s: usize,
+    a: &[u8; 257],
+    b: &[u8; 257],
+) -> Fillings
+    requires { ⌜ Slope p l ⌝ }
+    requires { ⌜ Takes kind p l ⌝ }
+    requires { ⌜ (p ≤ 257) × (t < p - 1) × (s < p - 1) ⌝ }
+    ensures { λ r. ⌜ CrossedMany p l t s (held (now (a .entry))) (held (now (b .entry))) r ⌝ }
+{
     match kind {
-        Kind::New => closing(p, l, t, s, a, b),
+        Kind::New => reaching_fillings(p, l, t, s, a, b),
         Kind::Old => {
             let n = classes::order(p, l);
             if n == p - 1 {
-                closing(p, l, t, s, a, b)
+                reaching_fillings(p, l, t, s, a, b)
             } else if classes::agree(p, l, n, s, t, a, b) {
-                unfilled(Fillings::Several)
+                Fillings::Several
             } else {
-                unfilled(Fillings::None)
+                Fillings::None
             }
         }
     }
 }
 
-// A column with a row at a slope whose powers reach all: they have a filling where the two sums through the crossing agree.
-fn closing(p: usize, l: usize, t: usize, s: usize, a: &[u8; 257], b: &[u8; 257]) -> Filling
+// The same at a slope whose powers reach all: one, where the two sums through the crossing agree, and else none.
+fn reaching_fillings(
+    p: usize,
+    l: usize,
+    t: usize,
+    s: usize,
+    a: &[u8; 257],
+    b: &[u8; 257],
+) -> Fillings
     requires { ⌜ Slope p l ⌝ }
     requires { ⌜ ReachesAll p l ⌝ }
-    requires { ⌜ (p ≤ 257) × (t < p - 1) × (s < p - 1) × (xorBelow p (held (now a)) ≡ xorBelow p (held (now b))) ⌝ }
-    ensures { λ r. ⌜ Solved p l (Column t) (Row s) (held (now (a .entry))) (held (now (b .entry))) (held (r .first)) (held (r .second)) (r .many) ⌝ }
+    requires { ⌜ (p ≤ 257) × (t < p - 1) × (s < p - 1) ⌝ }
+    ensures { λ r. ⌜ CrossedMany p l t s (held (now (a .entry))) (held (now (b .entry))) r ⌝ }
 {
-    let row = Line::Row(s);
-    let first = through(p, 1, row, t);
-    let second = through(p, l, row, t);
+    let first = through(p, 1, Line::Row(s), t);
+    let second = through(p, l, Line::Row(s), t);
     if a[first] == b[second] {
-        paired(
-            Pair {
-                p: p,
-                l: l,
-                column: t,
-                line: row,
-            },
-            a,
-            b,
-        )
+        Fillings::One
     } else {
-        unfilled(Fillings::None)
+        Fillings::None
     }
 }
 

@@ -2,7 +2,7 @@
 // line of slope 1 it comes to a symbol of the second line, from there by a line of slope l to one of the column, and so further.
 use code::Line;
 use search::column::along;
-use search::column::without_common;
+use search::column::take_off_common;
 use walk::index::number;
 use walk::index::step;
 use walk::index::through;
@@ -61,10 +61,8 @@ pub fn solve(pair: Pair, a: &[u8; 257], b: &[u8; 257]) -> Changes
         p - 1,
         unfilled,
     );
-    Changes {
-        column: x,
-        line: without_common(p, y),
-    }
+    take_off_common(p, &mut y);
+    Changes { column: x, line: y }
 }
 
 // How many hops there are from the column to the second line: one for each cell but the crossing.
@@ -108,6 +106,7 @@ fn to_line(
     requires { ⌜ Places p c n base weight back i ⌝ }
     requires { ⌜ (length (now x) ≡ 257) × (length (now y) ≡ 257) ⌝ }
     ensures { λ _. ⌜ FromColumn p c n base weight back (held (now (a .entry))) (held (now (b .entry))) i unfilled (held (now (x .entry))) (held (now (y .entry))) (held (now (x .exit))) (held (now (y .exit))) ⌝ }
+    ensures { λ _. ⌜ length (now (y .exit)) ≡ 257 ⌝ }
 {
     if unfilled == 0 {
         return;
@@ -136,6 +135,7 @@ fn to_column(
     requires { ⌜ Places p c n base weight back k ⌝ }
     requires { ⌜ (length (now x) ≡ 257) × (length (now y) ≡ 257) ⌝ }
     ensures { λ _. ⌜ FromLine p c n base weight back (held (now (a .entry))) (held (now (b .entry))) k unfilled (held (now (x .entry))) (held (now (y .entry))) (held (now (x .exit))) (held (now (y .exit))) ⌝ }
+    ensures { λ _. ⌜ length (now (y .exit)) ≡ 257 ⌝ }
 {
     if unfilled == 0 {
         return;

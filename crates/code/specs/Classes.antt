@@ -184,7 +184,8 @@ pub class-more : (p l k : ℕ) (A B : ℕ → ℕ) (s t o : ℕ) → classSum p 
 unfolding classSum
 class-more p l k A B s t o = more k _
 
--- the two sums through the crossing agree, and over each class the sums of both slopes through the row's cells have the same XOR
+-- where row and column cross, the sum of slope 1 is that of slope l; and of each class, the sums through its cells of the row, of both slopes
+-- together, add up to 0
 pub record ClassesAgree (p l n : ℕ) (A B : ℕ → ℕ) (s t : ℕ) : Type 0 where
   pub crossing : A (line p 1 s t) ≡ B (line p l s t)
   pub class : (o : ℕ) → 0 < o → o < p → classSum p l n A B s t o ≡ 0

@@ -1,29 +1,33 @@
--- WHAT AN EARLIER REPORT SAID. Before version 0.3.0 repair took the first column that explains a tile, and a row only where no column does,
--- so that a lone byte was told as its column. Here that rule stands for those who have such reports; no call follows it any more. There were
--- new tiles alone. Each answer of today stands for one of that rule, with the same bytes, and each of that rule for one of today's. Assumes
--- nothing.
+-- WHAT EARLIER VERSIONS SAID of new tiles, for those who have their reports. No call follows these rules any more.
+--
+-- Before version 0.3.0 repair took the first column that explains a tile, and a row only where no column does, so that a lone byte was told
+-- as its column. Each answer of today stands for one of that rule, with the same bytes, and each of that rule for one of today's.
+--
+-- Before version 0.4.0 fill took any filling, as there was never a second one. Its answers and bytes are today's. Assumes nothing.
 use mathlib.Core.Path.{_≡_, refl, sym, ap, _∙_}
+use mathlib.Core.Logic.{inr}
 use mathlib.Core.List.{List}
 use Prim.Native.Nat.{ℕ, _<_}
 use native.Mathlib.Decide.{ℕ-discrete}
 use native.Mathlib.Omega.{arith}
-use Rattle.code.specs.Tile.{cell, Good, On, Differ}
+use Rattle.code.specs.Tile.{cell, Good, On, Differ, Fills}
 use Rattle.code.specs.Differ.{differ-on}
-use Rattle.code.specs.Count.{Only, once-only, once-several}
+use Rattle.code.specs.Count.{None, Only, once-only, once-several}
+use Rattle.code.specs.Fillings.{fills-once}
 use Rattle.code.specs.declared.Kind.the-variants.{New}
 use Rattle.code.specs.declared.Line.{Line}
 use Rattle.code.specs.declared.Line.the-variants.{Row, Column}
 use Rattle.size.specs.Answer as size
 use Rattle.promise.specs.Answer.{Said, done, clean, column, row, refused}
-use Rattle.promise.specs.Calls.{Admitted, TileLength, Looked, Explains, ByLine, MoreBytes, Named, by-cell, by-column, by-row, RepairTold}
+use Rattle.promise.specs.Calls.{Admitted, TileLength, Looked, Explains, ByLine, MoreBytes, Named, by-cell, by-column, by-row, RepairTold, Has, FillTold}
 use Rattle.promise.specs.Admit.{admitted-well, slope-of}
 use Rattle.promise.specs.Name.{lineSaid, more-on}
 use Rattle.promise.specs.Explain.{Unexplained, unexplained-hurt, explains-on, explains-named}
 use Rattle.promise.specs.Doubt.{reach-once}
-use Rattle.promise.specs.Once.{repair-told-once}
+use Rattle.promise.specs.Once.{repair-told-once, fill-told-once}
 use Rattle.promise.specs.Promise.{repairs}
 
--- the earlier rule: the first column that explains a tile that is not good; where no column does, the first row; else 5
+-- repair: the first column that explains a tile that is not good; where no column does, the first row; else 5
 pub data ToldEarlier (p l : ℕ) (tile : List ℕ) : Said → List ℕ → Type 0 where
   refuses : {n : ℕ} → Admitted New p l (TileLength p tile) (size.refused n) → ToldEarlier p l tile (refused n) tile
   is-good : Admitted New p l (TileLength p tile) size.well → Good p l tile → ToldEarlier p l tile clean tile
@@ -115,3 +119,24 @@ module _ (p l : ℕ) (tile : List ℕ) where
       let s = stood-for report in
       let q = repair-told-once New p l tile (s .0) said old new (s .1) told in
       (sym (s .2) ∙ ap earlier (q .0), q .1)
+
+-- ---- fill
+
+-- 4 where the tile lacks a line, 5 where it has no filling, else a filling
+pub data FilledEarlier (p l : ℕ) (tile : List ℕ) (a b : Line) : Said → List ℕ → Type 0 where
+  refuses : {n : ℕ} → Admitted New p l (TileLength p tile) (size.refused n) → FilledEarlier p l tile a b (refused n) tile
+  no-line : Admitted New p l (TileLength p tile) size.well → (Has p a × Has p b → ⊥) → FilledEarlier p l tile a b (refused 4) tile
+  no-filling : Admitted New p l (TileLength p tile) size.well → Has p a → Has p b → None (Fills p l a b tile) → FilledEarlier p l tile a b (refused 5) tile
+  a-filling : {new : List ℕ} → Admitted New p l (TileLength p tile) size.well → Has p a → Has p b → Fills p l a b tile new → FilledEarlier p l tile a b done new
+
+-- each of its outcomes is today's, and so of one tile both are the same
+pub fill-as-before : {p l : ℕ} {tile x y : List ℕ} {a b : Line} {s t : Said} → FillTold New p l tile a b s x → FilledEarlier p l tile a b t y
+    → (s ≡ t) × (x ≡ y)
+fill-as-before {p} {l} {tile} {x} {y} {a} {b} {s} {t} told was = fill-told-once New p l tile a b s t x y told (today was)
+  where
+    today : {t : Said} {y : List ℕ} → FilledEarlier p l tile a b t y → FillTold New p l tile a b t y
+    today (FilledEarlier.refuses h) = FillTold.refuses h
+    today (FilledEarlier.no-line h f) = FillTold.no-line h f
+    today (FilledEarlier.no-filling h ha hb f) = FillTold.has-lines h ha hb (Looked.none f)
+    today (FilledEarlier.a-filling h ha hb f) =
+        FillTold.has-lines h ha hb (Looked.one (once-only (fills-once p l tile (slope-of h) a b (inr (admitted-well h .1 .reach))) f) refl)

@@ -1,5 +1,5 @@
 -- WHAT THE KIND AND THE SLOPE DECIDE (SPEC 2.5, 5.3 and 5.4): where a slope is allowed both kinds answer alike, and nothing is doubtful; at
--- every slope two rows, two columns and one line are sure; and at a slope that misses a remainder a row with a column is never filled.
+-- every slope two rows, two columns and one line are sure; and where the powers of the slope miss a remainder no row with a column is filled.
 -- Assumes nothing.
 use mathlib.Core.Path.{_≡_, refl}
 use mathlib.Core.Logic.{_⊎_, inl, inr, ⊎-elim}
@@ -104,7 +104,7 @@ module _ {k : Kind} {p l : ℕ} {tile new : List ℕ} where
   pub fillings-bytes : {a b : Line} → Bytes tile → FillTold k p l tile a b (refused 8) new → Several (OfBytes (Fills p l a b tile))
   fillings-bytes {a} {b} h t = let d = fill-eight t in several-bytes p l tile (slope-of (d .0)) a b (omega (arith, d .1)) (omega (arith, d .2)) h (d .3)
 
-  -- A ROW WITH A COLUMN at a slope that misses a remainder is never filled, whatever the bytes ..
+  -- A ROW WITH A COLUMN is never filled where the powers of the slope miss a remainder, whatever the bytes ..
   pub crossed-unfilled : {a b : Line} → (Parallel a b → ⊥) → (ReachesAll p l → ⊥) → FillTold k p l tile a b done new → ⊥
   crossed-unfilled {a} {b} cross miss (FillTold.has-lines h ha hb (Looked.one o q)) =
       only-several o (unsure-several p l tile (slope-of h) a b (omega arith) (omega arith) (⊎-elim cross miss) new (o .is))

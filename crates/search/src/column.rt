@@ -4,6 +4,7 @@ use walk::index::number;
 use walk::index::step;
 ghost use mathlib.Core.Path.{_≡_};
 ghost use Prim.Native.Nat.{ℕ, _+_, _-_, _≤_, _<_};
+ghost use lib.ListN.{length};
 ghost use Rattle.code.specs.OneLine as law;
 ghost use Rattle.code.specs.Held.{held};
 ghost use Rattle.search.specs.Column.{Searched, Along, TakenOff, Shifted};
@@ -48,7 +49,9 @@ pub fn shifted(p: usize, line: Line, a: &[u8; 257]) -> [u8; 257]
     requires { ⌜ (law.number line < p) × (2 ≤ p) × (p ≤ 257) ⌝ }
     ensures { λ r. ⌜ Shifted p (held (now (a .entry))) line (held r) ⌝ }
 {
-    without_common(p, along(p, line, a))
+    let mut change = along(p, line, a);
+    take_off_common(p, &mut change);
+    change
 }
 
 // The sums of the slope-1 lines through the cells of a row or a column.
@@ -68,18 +71,16 @@ pub fn along(p: usize, line: Line, a: &[u8; 257]) -> [u8; 257]
 }
 
 // Takes off the common byte, the sum at the line's added zero (SPEC 5.5).
-pub fn without_common(p: usize, sums: [u8; 257]) -> [u8; 257]
-    requires { ⌜ (0 < p) × (p ≤ 257) ⌝ }
-    ensures { λ r. ⌜ TakenOff p (held sums) (held r) ⌝ }
+pub fn take_off_common(p: usize, sums: &mut [u8; 257])
+    requires { ⌜ (0 < p) × (p ≤ 257) × (length (now sums) ≡ 257) ⌝ }
+    ensures { λ _. ⌜ TakenOff p (held (now (sums .entry))) (held (now (sums .exit))) ⌝ }
 {
     let common = sums[p - 1];
-    let mut change = [0u8; 257];
     let mut k = 0;
     while k < p {
-        change[k] = sums[k] ^ common;
+        sums[k] = sums[k] ^ common;
         k += 1;
     }
-    change
 }
 
 // No change.

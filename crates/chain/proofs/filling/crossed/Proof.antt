@@ -1,92 +1,60 @@
--- `chain::filling::crossed` meets its contract: a new tile's slope reaches all, and so does one whose order is p - 1; at any other the classes
--- tell. Assumes nothing.
+-- `chain::filling::crossed` meets its contract. Assumes nothing.
+use mathlib.Core.Logic.{inr}
 use native.Mathlib.Omega.{arith}
 use borrow.Author.Needs.{needs}
-use Rattle.residue.specs.Order.{order-reaches}
-use Rattle.code.specs.Slope.{slope-pos}
-use Rattle.code.specs.Held.{held}
-use Rattle.code.specs.Says.{says-true, says-false}
-use Rattle.chain.specs.Solve.{none, several}
-use Rattle.chain.specs.Cases.{missing, classes-some, classes-none}
+use Rattle.chain.specs.Cases.{crossed-close, none-solved, several-solved, one-reaches}
 use Rattle.chain.proofs.filling.crossed.Statement.{statement}
 use Rattle.chain.proofs.filling.crossed.Tie as tie
 
 enum-told : tie.Need-enum-told
 enum-told c = search needs
 
-closing-requires : tie.Need-closing-requires
-closing-requires c κs =
-    let start = c .before .before in
-    (start .pre .0, ((rw (c .enum-told .given .1) at (start .pre .1 .0)) .reach, start .pre .1 .1))
+unfilled-requires : tie.Need-unfilled-requires
+unfilled-requires c κs = search needs
 
 enum-told-2 : tie.Need-enum-told-2
 enum-told-2 c = search needs
 
-order-requires : tie.Need-order-requires
-order-requires c κs = search needs
-
-sub-if1 : tie.Need-sub-if1
-sub-if1 c = search needs
-
-closing-requires-2 : tie.Need-closing-requires-2
-closing-requires-2 c κs =
-    let ordered = c .before in
-    let start = ordered .before .before .before in
-    let S = start .pre .0 in
-    (S, (order-reaches (start .args .p) (start .args .l) (S .prime) (slope-pos _ _ S) _ (ordered .order .ensures .0) .0 (c .if1 .taken), start .pre .1 .1))
-
-agree-requires : tie.Need-agree-requires
-agree-requires c κs = search needs
-
-unfilled-requires : tie.Need-unfilled-requires
-unfilled-requires c κs = search needs
-
 unfilled-requires-2 : tie.Need-unfilled-requires-2
 unfilled-requires-2 c κs = search needs
 
+enum-told-3 : tie.Need-enum-told-3
+enum-told-3 c = search needs
+
+paired-requires : tie.Need-paired-requires
+paired-requires c κs =
+    let start = c .before .before in
+    let one = one-reaches (rw (c .enum-told3 .given .1) at (start .pre .1 .0)) in (
+      start .pre .0,
+      (
+        (omega arith, omega arith, omega arith),
+        (inr (one .0), crossed-close (start .args .p) (start .args .l) _ _ (start .pre .0) (start .args .t) (start .args .s) (one .0) (omega arith) (omega arith) (start .pre .1 .1 .3) (one .1)),
+      ),
+    )
+
 returns : tie.Need-returns
-returns c = search needs
+returns c =
+    let told = c .before in
+    rw (c .unfilled .ensures) (none-solved (rw (told .enum-told .given .1) at (told .before .before .pre .1 .0)))
 
 returns-2 : tie.Need-returns-2
-returns-2 c = search needs
+returns-2 c =
+    let told = c .before in
+    rw (c .unfilled2 .ensures) (several-solved (rw (told .enum-told2 .given .1) at (told .before .before .pre .1 .0)))
 
 returns-3 : tie.Need-returns-3
-returns-3 c =
-    let agreed = c .before .before in
-    let ordered = agreed .before .before in
-    let start = ordered .before .before .before in
-    let S = start .pre .0 in
-    let n = ordered .order .result in
-    let O = ordered .order .ensures .0 in
-    rw (c .unfilled .ensures)
-    (several (missing (start .args .p) (start .args .l) n (start .args .t) (start .args .s) S O (agreed .before .if1 .left))
-    (classes-some (start .args .p) (start .args .l) (held (start .args .a .now)) (held (start .args .b .now)) S n (start .args .t) (start .args .s) O (omega arith) (omega arith)
-    (says-true {b = agreed .agree .result} (agreed .agree .ensures) (c .before .if2 .taken))))
-
-returns-4 : tie.Need-returns-4
-returns-4 c =
-    let agreed = c .before .before in
-    let ordered = agreed .before .before in
-    let start = ordered .before .before .before in
-    rw (c .unfilled2 .ensures)
-    (none
-    (classes-none (start .args .p) (start .args .l) (held (start .args .a .now)) (held (start .args .b .now)) (start .pre .0) (ordered .order .result) (start .args .t) (start .args .s)
-    (ordered .order .ensures .0) (omega arith) (omega arith) (says-false {b = agreed .agree .result} (agreed .agree .ensures) (c .before .if2 .left))))
+returns-3 c = search needs
 
 pub crossed-spec : {M : Type 1} → statement M
 crossed-spec =
     tie.close
     (tie.spec
     enum-told
-    closing-requires
-    enum-told-2
-    order-requires
-    sub-if1
-    closing-requires-2
-    agree-requires
     unfilled-requires
+    enum-told-2
     unfilled-requires-2
+    enum-told-3
+    paired-requires
     returns
     returns-2
-    returns-3
-    returns-4)
+    returns-3)

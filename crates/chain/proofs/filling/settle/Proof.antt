@@ -21,11 +21,18 @@ rows-requires c κs =
 enum-known-second-2 : tie.Need-enum-known-second-2
 enum-known-second-2 c = search needs
 
-crossed-requires : tie.Need-crossed-requires
-crossed-requires c κs =
+crossed-fillings-requires : tie.Need-crossed-fillings-requires
+crossed-fillings-requires c κs =
     let with-first = c .before .before .before .before in
     let start = with-first .before .before in
-    (start .pre .0, (start .pre .1 .0, (omega arith, rw (c .before .second2 .given .1) at (start .pre .1 .1 .2), rw (with-first .first .given .1) at (start .pre .1 .1 .1), start .pre .1 .1 .3)))
+    (start .pre .0, (start .pre .1 .0, (omega arith, rw (c .before .second2 .given .1) at (start .pre .1 .1 .2), rw (with-first .first .given .1) at (start .pre .1 .1 .1))))
+
+crossed-requires : tie.Need-crossed-requires
+crossed-requires c κs =
+    let with-second = c .before .before in
+    let with-first = with-second .before .before .before in
+    let start = with-first .before .before in
+    (start .pre .0, (c .crossed-fillings .ensures, (omega arith, rw (with-second .second2 .given .1) at (start .pre .1 .1 .2), rw (with-first .first .given .1) at (start .pre .1 .1 .1), start .pre .1 .1 .3)))
 
 exchanged-requires : tie.Need-exchanged-requires
 exchanged-requires c κs = search needs
@@ -36,11 +43,18 @@ enum-known-first-2 c = search needs
 enum-known-second-3 : tie.Need-enum-known-second-3
 enum-known-second-3 c = search needs
 
-crossed-requires-2 : tie.Need-crossed-requires-2
-crossed-requires-2 c κs =
+crossed-fillings-requires-2 : tie.Need-crossed-fillings-requires-2
+crossed-fillings-requires-2 c κs =
     let with-first = c .before .before .before .before in
     let start = with-first .before .before in
-    (start .pre .0, (start .pre .1 .0, (omega arith, rw (with-first .first2 .given .1) at (start .pre .1 .1 .1), rw (c .before .second3 .given .1) at (start .pre .1 .1 .2), start .pre .1 .1 .3)))
+    (start .pre .0, (start .pre .1 .0, (omega arith, rw (with-first .first2 .given .1) at (start .pre .1 .1 .1), rw (c .before .second3 .given .1) at (start .pre .1 .1 .2))))
+
+crossed-requires-2 : tie.Need-crossed-requires-2
+crossed-requires-2 c κs =
+    let with-second = c .before .before in
+    let with-first = with-second .before .before .before in
+    let start = with-first .before .before in
+    (start .pre .0, (c .crossed-fillings2 .ensures, (omega arith, rw (with-first .first2 .given .1) at (start .pre .1 .1 .1), rw (with-second .second3 .given .1) at (start .pre .1 .1 .2), start .pre .1 .1 .3)))
 
 enum-known-second-4 : tie.Need-enum-known-second-4
 enum-known-second-4 c = search needs
@@ -58,7 +72,7 @@ returns c =
 
 returns-2 : tie.Need-returns-2
 returns-2 c =
-    let with-second = c .before .before .before in
+    let with-second = c .before .before .before .before in
     let with-first = with-second .before .before .before in
     let start = with-first .before .before in
     let e = c .exchanged .ensures in
@@ -68,8 +82,9 @@ returns-2 c =
 
 returns-3 : tie.Need-returns-3
 returns-3 c =
-    let with-first = c .before .before .before .before .before in
-    rw (with-first .first2 .given .1, c .before .before .second3 .given .1) (c .crossed2 .ensures)
+    let with-second = c .before .before .before in
+    let with-first = with-second .before .before .before in
+    rw (with-first .first2 .given .1, with-second .second3 .given .1) (c .crossed2 .ensures)
 
 returns-4 : tie.Need-returns-4
 returns-4 c =
@@ -84,10 +99,12 @@ settle-spec =
     enum-known-second
     rows-requires
     enum-known-second-2
+    crossed-fillings-requires
     crossed-requires
     exchanged-requires
     enum-known-first-2
     enum-known-second-3
+    crossed-fillings-requires-2
     crossed-requires-2
     enum-known-second-4
     columns-requires

@@ -51,7 +51,7 @@ to-line-calls t = (step-reads.Asked, step-reads.Learnt, before-reads.Asked, befo
 to-column-returns : (t : ℕ) → to-column-lts.Need-returns (to-column-calls t) (to-column-at t) to-column.Post
 to-column-returns t c =
     let start = c .before in
-    no-column _ _ _ _ _ _ _ _ _ (λ k. 0) (λ k. 0) (omega (arith, start .pre .1 .0 .column)) _ _ _ (c .if1 .taken)
+    (no-column _ _ _ _ _ _ _ _ _ (λ k. 0) (λ k. 0) (omega (arith, start .pre .1 .0 .column)) _ _ _ (c .if1 .taken), start .pre .1 .1 .1)
 
 to-column-mul-t : (t : ℕ) → to-column-lts.Need-mul-t (to-column-calls t) (to-column-at t) to-column.Post
 to-column-mul-t t c =
@@ -104,14 +104,16 @@ to-column-to-line-requires t c κs =
 
 to-column-returns-2 : (t : ℕ) → to-column-lts.Need-returns-2 (to-column-calls t) (to-column-at t) to-column.Post
 to-column-returns-2 t c =
-    let start = c .before .before .before .before .before .before .before in
-    column-turn _ _ _ _ _ _ _ _ _ _ _ (omega (arith, start .pre .1 .0 .column)) (start .args .x .now) _ _ _ _ (c .before .before .before .before .before .before .if1 .left) refl (c .before .before .before .before .before .before2 .ensures .0)
-    (omega arith) (c .to-line .ensures)
+    let start = c .before .before .before .before .before .before .before in (
+      column-turn _ _ _ _ _ _ _ _ _ _ _ (omega (arith, start .pre .1 .0 .column)) (start .args .x .now) _ _ _ _ (c .before .before .before .before .before .before .if1 .left) refl (c .before .before .before .before .before .before2 .ensures .0)
+          (omega arith) (c .to-line .ensures .0),
+      c .to-line .ensures .1,
+    )
 
 to-line-returns : (t : ℕ) → to-line-lts.Need-returns (to-line-calls t) (to-line-at t) to-line.Post
 to-line-returns t c =
     let start = c .before in
-    no-line _ _ _ _ _ _ _ _ _ (λ k. 0) (λ k. 0) (omega (arith, start .pre .1 .0 .column)) _ _ _ (c .if1 .taken)
+    (no-line _ _ _ _ _ _ _ _ _ (λ k. 0) (λ k. 0) (omega (arith, start .pre .1 .0 .column)) _ _ _ (c .if1 .taken), start .pre .1 .1 .1)
 
 to-line-step-requires : (t : ℕ) → to-line-lts.Need-step-requires (to-line-calls t) (to-line-at t) to-line.Post
 to-line-step-requires t c κs = search needs
@@ -152,9 +154,11 @@ to-line-to-column-requires t c κs =
 
 to-line-returns-2 : (t : ℕ) → to-line-lts.Need-returns-2 (to-line-calls t) (to-line-at t) to-line.Post
 to-line-returns-2 t c =
-    let start = c .before .before .before .before .before .before .before .before in
-    line-turn _ _ _ _ _ _ _ _ _ _ _ (omega (arith, start .pre .1 .0 .column)) _ (start .args .y .now) _ _ _ (c .before .before .before .before .before .before .before .if1 .left) (c .before .before .before .before .before .before .step .ensures .is)
-    (c .before .before .before .before .before .before2 .ensures .0) (omega arith) (c .to-column .ensures)
+    let start = c .before .before .before .before .before .before .before .before in (
+      line-turn _ _ _ _ _ _ _ _ _ _ _ (omega (arith, start .pre .1 .0 .column)) _ (start .args .y .now) _ _ _ (c .before .before .before .before .before .before .before .if1 .left) (c .before .before .before .before .before .before .step .ensures .is)
+          (c .before .before .before .before .before .before2 .ensures .0) (omega arith) (c .to-column .ensures .0),
+      c .to-column .ensures .1,
+    )
 
 pub +to-column+to-line-spec : {M : Type 1} → statement M
 +to-column+to-line-spec = close μ-to-column μ-to-line (λ t. to-column-lts.spec (to-column-calls t)

@@ -58,18 +58,19 @@ to-line-requires c κs =
       search needs,
     )
 
-without-common-requires : tie.Need-without-common-requires
-without-common-requires c κs = search needs
+take-off-common-requires : tie.Need-take-off-common-requires
+take-off-common-requires c κs = search needs
 
 returns : tie.Need-returns
 returns c =
-    let weighed = c .before .before .before .before in
+    let filled = c .before .before in
+    let weighed = filled .before .before .before in
     let crossing = weighed .before .before .before in
     let start = crossing .before .before in
     chain-settled (start .args .pair .p) (start .args .pair .l) (start .args .pair .column) (start .args .pair .line) _ _ (held (replicate 257 0)) _ _ _ _
     (start .pre .0) (start .pre .1 .1) (start .pre .1 .0 .1) (start .pre .1 .0 .2) (zeros-held 257) (crossing .before .along .ensures)
-    (rw (weighed .before .number .ensures, crossing .through .ensures .0, weighed .weight .ensures, weighed .before .before .hops .ensures) at (c .before .to-line .ensures))
-    (c .without-common .ensures)
+    (rw (weighed .before .number .ensures, crossing .through .ensures .0, weighed .weight .ensures, weighed .before .before .hops .ensures) at (filled .to-line .ensures .0))
+    (c .take-off-common .ensures)
 
 pub solve-spec : {M : Type 1} → statement M
 solve-spec =
@@ -86,5 +87,5 @@ solve-spec =
     rem-to-line
     sub-to-line
     to-line-requires
-    without-common-requires
+    take-off-common-requires
     returns)

@@ -9,11 +9,13 @@ use Rattle.search.proofs.column.shifted.Tie as tie
 along-requires : tie.Need-along-requires
 along-requires c κs = search needs
 
-without-common-requires : tie.Need-without-common-requires
-without-common-requires c κs = search needs
+take-off-common-requires : tie.Need-take-off-common-requires
+take-off-common-requires c κs = search needs
 
 returns : tie.Need-returns
-returns c = λ k h. c .without-common .ensures k h ∙ ap₂ _⊕_ (c .before .along .ensures k h) (c .before .along .ensures _ (omega arith))
+returns c =
+    let sums = c .before .before .along .ensures in
+    λ k h. c .take-off-common .ensures k h ∙ ap₂ _⊕_ (sums k h) (sums _ (omega arith))
 
 pub shifted-spec : {M : Type 1} → statement M
-shifted-spec = tie.close (tie.spec along-requires without-common-requires returns)
+shifted-spec = tie.close (tie.spec along-requires take-off-common-requires returns)
