@@ -9,17 +9,14 @@ use lib.Dec.{eqb}
 use Rattle.xor.specs.Xor.{_⊕_, comm, self, zero-r}
 use Rattle.xor.specs.Sum.{xorBelow, ext, keep-zero}
 use Rattle.residue.specs.Power.{ReachesAll}
-use Rattle.residue.specs.Order.{Order, order-reaches}
-use Rattle.code.specs.Slope.{Slope, slope-pos, slope-inverse}
+use Rattle.code.specs.Slope.{Slope, slope-inverse}
 use Rattle.code.specs.Tile.{Cells, line, sum}
 use Rattle.code.specs.Sums.{plus, totals}
 use Rattle.code.specs.Settle.{settles-ext, settles-sums}
 use Rattle.code.specs.Turn.{turned, padded-turned, settles-turned, turned-settles}
 use Rattle.code.specs.OneLine.{Agree, shifted, along, along-ext, one-line-agrees, one-line-settles}
-use Rattle.code.specs.Pair.{pair-crossing}
 use Rattle.code.specs.Columns.{stride, stride-is, rowBy, stopBy}
 use Rattle.code.specs.Crossed.{cellBy}
-use Rattle.code.specs.Classes.{ClassesAgree, classes-settled, settles-classes}
 use Rattle.code.specs.Existence.{columns-closing, crossed-closing, turned-total}
 use Rattle.code.specs.Distance.{Parallel}
 use Rattle.code.specs.Fillings.{Sure}
@@ -28,9 +25,10 @@ use Rattle.code.specs.declared.Line.the-variants.{Row, Column}
 use Rattle.code.specs.Held.{held}
 use Rattle.walk.specs.Sums.{Sums}
 use Rattle.search.specs.Column.{Shifted}
-use Rattle.chain.specs.Solve.{SettledBy, SettledSome, Solved, none, one, several, CrossedMany, no-crossed, one-crossed, several-crossed, Closes}
-use Rattle.chain.specs.declared.filling.Fillings.{Fillings}
-use Rattle.chain.specs.declared.filling.Fillings.the-variants as fillings
+use Rattle.classes.specs.Many.{SettledSome, CrossedMany, no-crossed, one-crossed, several-crossed}
+use Rattle.classes.specs.declared.Fillings.{Fillings}
+use Rattle.classes.specs.declared.Fillings.the-variants as fillings
+use Rattle.chain.specs.Solve.{SettledBy, Solved, none, one, several, Closes}
 
 -- the sums of both slopes have one total, also as arrays hold them
 pub held-totals : (p l : ℕ) (T : Cells) (a b : List ℕ) → Sums p 1 T a → Sums p l T b → xorBelow p (held a) ≡ xorBelow p (held b)
@@ -94,10 +92,6 @@ solved-rows p l m r s A B B′ x y inverse h (none f) = none (λ t. f (record {
 }))
 solved-rows p l m r s A B B′ x y inverse h (several d t) = absurd (d (inl tt))
 
--- a column with a row is not sure where the order of the slope is not p - 1
-pub missing : (p l n t s : ℕ) → Slope p l → Order p l n → n ≢ p - 1 → Sure p l (Column t) (Row s) → ⊥
-missing p l n t s S O d (inr all) = d (order-reaches p l (S .prime) (slope-pos p l S) n O .1 all)
-
 module _ (p l : ℕ) (A B : ℕ → ℕ) (S : Slope p l) where
   -- one column, where the sums agree along it: its change, and no second one
   pub one-yes : (c : ℕ) (x y : ℕ → ℕ) → c < p - 1 → Agree p l A B (Column c) → Shifted p A (Column c) x → ((k : ℕ) → y k ≡ 0)
@@ -132,19 +126,6 @@ module _ (p l : ℕ) (A B : ℕ → ℕ) (S : Slope p l) where
     stop = cellBy p l s t;
     closing = crossed-closing p l s t A B S all hs ht e cross;
   }
-
-  -- and where they do not, there is no change
-  pub crossed-no : (t s : ℕ) → s < p - 1 → t < p - 1 → (A (line p 1 s t) ≡ B (line p l s t) → ⊥) → SettledSome p l (Column t) (Row s) A B → ⊥
-  crossed-no t s hs ht d c =
-      let m = slope-inverse p l S in d (pair-crossing p l (m .0) (m .1) A B t (omega arith) (Row s) (omega arith) (c .by) (c .settles) (c .off) t (omega arith) refl)
-
-  -- where the powers miss a remainder, there are several where the sums agree over each class, and none where they do not
-  module _ (n t s : ℕ) (O : Order p l n) (hs : s < p - 1) (ht : t < p - 1) where
-    pub classes-some : ClassesAgree p l n A B s t → SettledSome p l (Column t) (Row s) A B
-    classes-some c = let q = classes-settled p l n s t A B S O hs ht c in record { by = q .by; settles = q .settles; padded = q .padded; off = q .off }
-
-    pub classes-none : (ClassesAgree p l n A B s t → ⊥) → SettledSome p l (Column t) (Row s) A B → ⊥
-    classes-none d c = d (settles-classes p l n s t A B (c .by) S O (omega arith) (omega arith) (c .settles) (c .off))
 
 -- a column with a row, where there is none, where there is one, and where there are several
 module _ {p l t s : ℕ} {A B x y : ℕ → ℕ} where

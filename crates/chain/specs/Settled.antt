@@ -14,7 +14,8 @@ use Rattle.code.specs.OneLine.{number, along, along-off, along-padded}
 use Rattle.code.specs.Pair.{ZeroOffBoth}
 use Rattle.code.specs.Filling.{filled-settles, filled-off}
 use Rattle.code.specs.declared.Line.{Line}
-use Rattle.chain.specs.Solve.{SettledBy, SettledSome}
+use Rattle.classes.specs.Many.{SettledSome}
+use Rattle.chain.specs.Solve.{SettledBy}
 use Rattle.cells.specs.Change.{Added, changed-good}
 
 -- y is x with a change in the lines a and b that settles the sums A and B

@@ -4,22 +4,22 @@ use Prim.Native.Nat.{ℕ, _+_, _-_, _*_, _%_, _≤_, _<_}
 use native.Mathlib.Decide.{ℕ-discrete}
 use native.Mathlib.Omega.{arith}
 use Rattle.xor.specs.Xor.{_⊕_, xors, self, zero-r}
-use Rattle.residue.specs.Power.{ReachesAll}
 use Rattle.code.specs.Slope.{Slope, slope-inverse}
-use Rattle.code.specs.Tile.{Cells, line}
-use Rattle.code.specs.Sums.{Padded, plus}
+use Rattle.code.specs.Tile.{line}
+use Rattle.code.specs.Sums.{plus}
 use Rattle.code.specs.Settle.{Settles, settles-ext}
 use Rattle.code.specs.OneLine.{number, rowAt, columnAt, through, along, shifted, along-ext}
-use Rattle.code.specs.Pair.{ZeroOffBoth, Hops, left, change, left-crossing, first-left}
+use Rattle.code.specs.Pair.{Hops, left, change, left-crossing, first-left}
 use Rattle.code.specs.Existence.{Closing, by-chain}
 use Rattle.code.specs.Fillings.{Sure}
 use Rattle.code.specs.declared.Line.{Line}
 use Rattle.code.specs.declared.Line.the-variants.{Row, Column}
 use Rattle.walk.specs.Fill.{through-once}
 use Rattle.search.specs.Column.{Along, TakenOff}
+use Rattle.classes.specs.Many.{SettledSome}
+use Rattle.classes.specs.declared.Fillings.{Fillings}
+use Rattle.classes.specs.declared.Fillings.the-variants as fillings
 use Rattle.chain.specs.Hand.{Onward, weightOf, leads, FromColumn}
-use Rattle.chain.specs.declared.filling.Fillings.{Fillings}
-use Rattle.chain.specs.declared.filling.Fillings.the-variants as fillings
 
 -- x in the line a and y in the line b settle the sums A and B, and are 0 where the lines meet the added zeros
 pub record SettledBy (p l : ℕ) (a b : Line) (A B x y : ℕ → ℕ) : Type 0 where
@@ -27,25 +27,12 @@ pub record SettledBy (p l : ℕ) (a b : Line) (A B x y : ℕ → ℕ) : Type 0 w
   pub first : x (p - 1) ≡ 0
   pub second : y (p - 1) ≡ 0
 
--- some change in the lines a and b settles the sums
-pub record SettledSome (p l : ℕ) (a b : Line) (A B : ℕ → ℕ) : Type 0 where
-  pub by : Cells
-  pub settles : Settles p l A B by
-  pub padded : Padded p by
-  pub off : ZeroOffBoth p a b by
-
 -- how many changes in the lines a and b settle the sums. Where it is one, x and y are it, and the lines are sure; where they are not, there
 -- is none, or there are several
 pub data Solved (p l : ℕ) (a b : Line) (A B x y : ℕ → ℕ) : Fillings → Type 0 where
   none : (SettledSome p l a b A B → ⊥) → Solved p l a b A B x y fillings.None
   one : Sure p l a b → SettledBy p l a b A B x y → Solved p l a b A B x y fillings.One
   several : (Sure p l a b → ⊥) → SettledSome p l a b A B → Solved p l a b A B x y fillings.Several
-
--- how many there are in column t with row s. Where it is one, the slope reaches all, and the two sums through the crossing agree
-pub data CrossedMany (p l t s : ℕ) (A B : ℕ → ℕ) : Fillings → Type 0 where
-  no-crossed : (SettledSome p l (Column t) (Row s) A B → ⊥) → CrossedMany p l t s A B fillings.None
-  one-crossed : ReachesAll p l → A (line p 1 s t) ≡ B (line p l s t) → CrossedMany p l t s A B fillings.One
-  several-crossed : (Sure p l (Column t) (Row s) → ⊥) → SettledSome p l (Column t) (Row s) A B → CrossedMany p l t s A B fillings.Several
 
 -- how many hops there are between a column and the line b
 abbrev pub hopsOf : ℕ → Line → ℕ

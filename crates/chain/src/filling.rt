@@ -1,18 +1,17 @@
 // The changes that fill one or two flagged lines.
 use crate::pair;
 use crate::pair::Pair;
+use classes::Fillings;
 use code::Kind;
 use code::Line;
 use search::column;
 use search::column::zeros;
-use walk::index::through;
 use walk::sums::line_sums;
 use walk::turn;
 ghost use mathlib.Core.Path.{_≡_};
 ghost use Prim.Native.Nat.{_-_, _≤_, _<_};
 ghost use lib.ListN.{length};
 ghost use Rattle.xor.specs.Sum.{xorBelow};
-ghost use Rattle.residue.specs.Power.{ReachesAll};
 ghost use Rattle.code.specs.Slope.{Slope};
 ghost use Rattle.code.specs.Kind.{Takes};
 ghost use Rattle.code.specs.Tile.{cell, sum, tileLength};
@@ -20,14 +19,8 @@ ghost use Rattle.code.specs.OneLine as law;
 ghost use Rattle.code.specs.Fillings.{Sure};
 ghost use Rattle.code.specs.declared.Line.the-variants.{Row, Column};
 ghost use Rattle.code.specs.Held.{held};
-ghost use Rattle.chain.specs.Solve.{Solved, CrossedMany, Closes};
-
-// How many fillings there are.
-pub enum Fillings {
-    None,
-    One,
-    Several,
-}
+ghost use Rattle.classes.specs.Many.{CrossedMany};
+ghost use Rattle.chain.specs.Solve.{Solved, Closes};
 
 // How many fillings there are and, where it is one, the changes in the two lines that make it.
 pub struct Filling {
@@ -66,18 +59,16 @@ fn settle(
     match first {
         Line::Row(r) => match second {
             Line::Row(s) => rows(p, l, r, s, a, b),
-            Line::Column(t) => exchanged(crossed(
-                crossed_fillings(kind, p, l, t, r, a, b),
-                p,
-                l,
-                t,
-                r,
-                a,
-                b,
-            )),
+            Line::Column(t) => {
+                let many = classes::crossed_fillings(kind, p, l, t, r, a, b);
+                exchanged(crossed(many, p, l, t, r, a, b))
+            }
         },
         Line::Column(t) => match second {
-            Line::Row(s) => crossed(crossed_fillings(kind, p, l, t, s, a, b), p, l, t, s, a, b),
+            Line::Row(s) => {
+                let many = classes::crossed_fillings(kind, p, l, t, s, a, b);
+                crossed(many, p, l, t, s, a, b)
+            }
             Line::Column(v) => columns(p, l, t, v, a, b),
         },
     }
@@ -184,60 +175,6 @@ fn crossed(
             a,
             b,
         ),
-    }
-}
-
-// How many fillings a column with a row has. The powers of a new tile's slope reach all, and so may those of an old one's; where they do
-// not, there are several or none.
-fn crossed_fillings(
-    kind: Kind,
-    p: usize,
-    l: usize,
-    t: usize,
-    s: usize,
-    a: &[u8; 257],
-    b: &[u8; 257],
-) -> Fillings
-    requires { ⌜ Slope p l ⌝ }
-    requires { ⌜ Takes kind p l ⌝ }
-    requires { ⌜ (p ≤ 257) × (t < p - 1) × (s < p - 1) ⌝ }
-    ensures { λ r. ⌜ CrossedMany p l t s (held (now (a .entry))) (held (now (b .entry))) r ⌝ }
-{
-    match kind {
-        Kind::New => reaching_fillings(p, l, t, s, a, b),
-        Kind::Old => {
-            let n = classes::order(p, l);
-            if n == p - 1 {
-                reaching_fillings(p, l, t, s, a, b)
-            } else if classes::agree(p, l, n, s, t, a, b) {
-                Fillings::Several
-            } else {
-                Fillings::None
-            }
-        }
-    }
-}
-
-// The same at a slope whose powers reach all: one, where the two sums through the crossing agree, and else none.
-fn reaching_fillings(
-    p: usize,
-    l: usize,
-    t: usize,
-    s: usize,
-    a: &[u8; 257],
-    b: &[u8; 257],
-) -> Fillings
-    requires { ⌜ Slope p l ⌝ }
-    requires { ⌜ ReachesAll p l ⌝ }
-    requires { ⌜ (p ≤ 257) × (t < p - 1) × (s < p - 1) ⌝ }
-    ensures { λ r. ⌜ CrossedMany p l t s (held (now (a .entry))) (held (now (b .entry))) r ⌝ }
-{
-    let first = through(p, 1, Line::Row(s), t);
-    let second = through(p, l, Line::Row(s), t);
-    if a[first] == b[second] {
-        Fillings::One
-    } else {
-        Fillings::None
     }
 }
 

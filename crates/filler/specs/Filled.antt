@@ -15,8 +15,8 @@ use Rattle.size.specs.Answer as size
 use Rattle.cells.specs.Change.{Added}
 use Rattle.chain.specs.Solve.{Solved, none, one, several}
 use Rattle.chain.specs.Settled.{both-added, settled-fill, some-fill}
-use Rattle.chain.specs.declared.filling.Fillings.{Fillings}
-use Rattle.chain.specs.declared.filling.Fillings.the-variants as fillings
+use Rattle.classes.specs.declared.Fillings.{Fillings}
+use Rattle.classes.specs.declared.Fillings.the-variants as fillings
 use Rattle.promise.specs.Answer.{done, refused}
 use Rattle.promise.specs.Calls.{Admitted, TileLength, Looked, Has, FillTold, has-lines}
 use Rattle.promise.specs.Admit.{admitted-well, slope-of}

@@ -1,7 +1,7 @@
 // Filling one or two flagged lines of a tile.
 use cells::change::add_line;
 use chain::filling;
-use chain::filling::Fillings;
+use classes::Fillings;
 use code::Kind;
 use code::Line;
 use promise::Outcome;

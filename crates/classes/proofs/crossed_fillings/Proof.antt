@@ -1,4 +1,4 @@
--- `chain::filling::crossed_fillings` meets its contract: a new tile's slope reaches all, and so does one whose order is p - 1; at any other
+-- `classes::crossed_fillings` meets its contract: a new tile's slope reaches all, and so does one whose order is p - 1; at any other
 -- the classes tell. Assumes nothing.
 use mathlib.Core.Path.{_≡_}
 use Prim.Native.Nat.{_-_}
@@ -8,16 +8,16 @@ use Rattle.residue.specs.Order.{order-reaches}
 use Rattle.code.specs.Slope.{slope-pos}
 use Rattle.code.specs.Held.{held}
 use Rattle.code.specs.Says.{says-true, says-false}
-use Rattle.chain.specs.Solve.{no-crossed, several-crossed}
-use Rattle.chain.specs.Cases.{missing, classes-some, classes-none}
-use Rattle.chain.proofs.filling.crossed_fillings.Statement.{statement}
-use Rattle.chain.proofs.filling.crossed_fillings.Tie as tie
+use Rattle.classes.specs.Many.{no-crossed, several-crossed}
+use Rattle.classes.specs.Many.{missing, classes-some, classes-none}
+use Rattle.classes.proofs.crossed_fillings.Statement.{statement}
+use Rattle.classes.proofs.crossed_fillings.Tie as tie
 
 enum-told : tie.Need-enum-told
 enum-told c = search needs
 
-reaching-fillings-requires : tie.Need-reaching-fillings-requires
-reaching-fillings-requires c κs =
+reaching-requires : tie.Need-reaching-requires
+reaching-requires c κs =
     let start = c .before .before in
     (start .pre .0, ((rw (c .enum-told .given .1) at (start .pre .1 .0)) .reach, start .pre .1 .1))
 
@@ -30,8 +30,8 @@ order-requires c κs = search needs
 sub-if1 : tie.Need-sub-if1
 sub-if1 c = search needs
 
-reaching-fillings-requires-2 : tie.Need-reaching-fillings-requires-2
-reaching-fillings-requires-2 c κs =
+reaching-requires-2 : tie.Need-reaching-requires-2
+reaching-requires-2 c κs =
     let ordered = c .before in
     let start = ordered .before .before .before in
     let S = start .pre .0 in
@@ -73,11 +73,11 @@ crossed-fillings-spec =
     tie.close
     (tie.spec
     enum-told
-    reaching-fillings-requires
+    reaching-requires
     enum-told-2
     order-requires
     sub-if1
-    reaching-fillings-requires-2
+    reaching-requires-2
     agree-requires
     returns
     returns-2

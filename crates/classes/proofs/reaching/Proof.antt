@@ -1,12 +1,12 @@
--- `chain::filling::reaching_fillings` meets its contract. Assumes nothing.
+-- `classes::reaching` meets its contract. Assumes nothing.
 use mathlib.Core.Path.{sym, ap, _∙_}
 use native.Mathlib.Omega.{arith}
 use borrow.Author.Needs.{needs}
 use Rattle.code.specs.Held.{held}
-use Rattle.chain.specs.Solve.{no-crossed, one-crossed}
-use Rattle.chain.specs.Cases.{crossed-no}
-use Rattle.chain.proofs.filling.reaching_fillings.Statement.{statement}
-use Rattle.chain.proofs.filling.reaching_fillings.Tie as tie
+use Rattle.classes.specs.Many.{no-crossed, one-crossed}
+use Rattle.classes.specs.Many.{crossed-no}
+use Rattle.classes.proofs.reaching.Statement.{statement}
+use Rattle.classes.proofs.reaching.Tie as tie
 
 through-requires : tie.Need-through-requires
 through-requires c κs = search needs
@@ -35,5 +35,5 @@ returns-2 c =
     (crossed-no (start .args .p) (start .args .l) _ _ (start .pre .0) (start .args .t) (start .args .s) (omega arith) (omega arith)
     (λ e. c .if1 .left (ap (held (start .args .a .now)) (crossing .before .through .ensures .0) ∙ e ∙ sym (ap (held (start .args .b .now)) (crossing .through2 .ensures .0)))))
 
-pub reaching-fillings-spec : {M : Type 1} → statement M
-reaching-fillings-spec = tie.close (tie.spec through-requires through-requires-2 element-copy-out-if1 element-copy-out-if1-2 returns returns-2)
+pub reaching-spec : {M : Type 1} → statement M
+reaching-spec = tie.close (tie.spec through-requires through-requires-2 element-copy-out-if1 element-copy-out-if1-2 returns returns-2)
