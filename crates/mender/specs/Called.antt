@@ -10,7 +10,7 @@ use Rattle.code.specs.OneLine.{number, rowAt, columnAt, along, along-off, along
 use Rattle.code.specs.Differ.{index, nth-in}
 use Rattle.code.specs.declared.Line.{Line}
 use Rattle.cells.specs.Change.{Added}
-use Rattle.search.specs.Hurt.{NextChanged}
+use Rattle.search.specs.Hurt.{NextChanged, Twice, twice-changed, once-changed}
 use Rattle.promise.specs.Answer.{Said}
 use Rattle.promise.specs.Calls.{Named, by-cell}
 use Rattle.promise.specs.Name.{lineSaid, DifferNth, nth-of, in-one, in-more, line-named}
@@ -47,24 +47,20 @@ module _ (p : ℕ) (a : Line) (X : ℕ → ℕ) (k m : ℕ) (first : NextChanged
   pub called-line : m < p - 1 → Called p a X (lineSaid a)
   called-line q = record {
     names = λ x z h added hurt.
-        let is : k < p - 1 = omega (arith, second .low) in
+        let t : Twice (p - 1) X = twice-changed first second q in
         line-named a
-        (in-more p a x z (unchanged p a X x z h added) k m (omega (arith, second .low)) (differs p a X x z h added k is (first .is is)) (differs p a X x z h added m q (second .is q)));
+        (in-more p a x z (unchanged p a X x z h added) (t .one) (t .other) (t .apart) (differs p a X x z h added (t .one) (t .one-lt) (t .at-one))
+        (differs p a X x z h added (t .other) (t .other-lt) (t .at-other)));
   }
 
   -- if there is one, by its cell
   pub called-cell : p - 1 ≤ m → Called p a X (Said.cell (rowAt a k) (columnAt a k))
   called-cell q = record { names = λ x z h added hurt. go x z h added hurt (decLt k (p - 1)) }
     where
-      -- every other place is before the first or between it and the next
-      zero : (o : ℕ) → (o ≡ k → ⊥) → Dec (o < k) → o < p - 1 → X o ≡ 0
-      zero o n (yes l) b = first .before o (omega arith) l
-      zero o n (no l) b = second .before o (omega arith) (omega arith)
-
       go : (x z : List ℕ) → number a < p - 1 → Added p (along a X) x z → (((i j : ℕ) → Differ p x z i j → ⊥) → ⊥) → Dec (k < p - 1)
           → Named p x z (Said.cell (rowAt a k) (columnAt a k))
       go x z h added hurt (yes is) =
           by-cell (in-one p a x z (unchanged p a X x z h added) k (differs p a X x z h added k is (first .is is)) (λ o n.
-          agrees p a X x z h added o (zero o n (decLt o k))))
+          agrees p a X x z h added o (λ b. once-changed first second q o b n)))
       go x z h added hurt (no none) = absurd (hurt (λ i j d.
           agrees p a X x z h added (index a i j) (λ b. first .before _ (omega arith) (omega arith)) (nth-of p a x z (unchanged p a X x z h added) i j d)))

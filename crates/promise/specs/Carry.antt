@@ -15,7 +15,7 @@ use Rattle.promise.specs.Answer.{Said, refused}
 use Rattle.promise.specs.Calls.{Admitted, TileLength, Looked, ByLine, MoreBytes, Named, by-cell, by-column, by-row, RepairTold, FillTold}
 use Rattle.promise.specs.Admit.{admitted-well}
 use Rattle.promise.specs.Explain.{explains-fills}
-use Rattle.promise.specs.Promise.{repairs}
+use Rattle.promise.specs.Doubt.{repairs}
 
 -- w is the good tile that is added
 module _ (k : Kind) (p l : ℕ) (w : List ℕ) (g : Good p l w) where

@@ -13,10 +13,13 @@ use Rattle.code.specs.Differ.{differ-on}
 use Rattle.code.specs.Distance.{Parallel}
 use Rattle.code.specs.Filling.{line-filled}
 use Rattle.code.specs.Count.{Only, Several, OfBytes, AtMostOne, only-several}
+use Rattle.code.specs.declared.Kind.{Kind}
 use Rattle.code.specs.declared.Line.{Line}
 use Rattle.code.specs.declared.Line.the-variants.{Row, Column}
+use Rattle.size.specs.Answer as size
 use Rattle.promise.specs.Answer.{Said}
-use Rattle.promise.specs.Calls.{Looked, Explains, ByLine, OneByte, MoreBytes, Named, by-cell, by-column, by-row}
+use Rattle.promise.specs.Calls.{Admitted, TileLength, Looked, Explains, ByLine, OneByte, MoreBytes, Named, by-cell, by-column, by-row, RepairTold}
+use Rattle.promise.specs.Admit.{admitted-well, slope-of}
 use Rattle.promise.specs.Name.{more-on}
 use Rattle.promise.specs.Explain.{explains-fills, good-explains, explains-on, parallel-self, explains-once, named-hurt, explains-has, explains-named, explained}
 
@@ -98,6 +101,11 @@ module _ (p l : ℕ) (x : List ℕ) (S : Slope p l) where
         let same : a ≡ b = more-on b m (differ-on p b x y .0 (rw q (f .same))) in
         cross (rw same (parallel-self b));
   }
+
+-- what comes of looking at those that explain a tile is what repair answers
+pub repairs : {k : Kind} {p l : ℕ} {tile new : List ℕ} {said : Said} → Admitted k p l (TileLength p tile) size.well
+    → Looked (ByLine p l tile) (Named p tile) tile said new → RepairTold k p l tile said new
+repairs {k} {p} {l} {tile} h q = RepairTold.is-hurt h (looked-hurt p l tile (slope-of h) (admitted-well h .2) q) q
 
 -- SPEC 5.3: a column explains the tile by two bytes or more, and a row explains it too
 pub record Doubt (p l : ℕ) (x : List ℕ) : Type 0 where

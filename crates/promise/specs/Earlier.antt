@@ -23,9 +23,8 @@ use Rattle.promise.specs.Calls.{Admitted, TileLength, Looked, Explains, 
 use Rattle.promise.specs.Admit.{admitted-well, slope-of}
 use Rattle.promise.specs.Name.{lineSaid, more-on}
 use Rattle.promise.specs.Explain.{Unexplained, unexplained-hurt, explains-on, explains-named}
-use Rattle.promise.specs.Doubt.{reach-once}
+use Rattle.promise.specs.Doubt.{reach-once, repairs}
 use Rattle.promise.specs.Once.{repair-told-once, fill-told-once}
-use Rattle.promise.specs.Promise.{repairs}
 
 -- repair: the first column that explains a tile that is not good; where no column does, the first row; else 5
 pub data ToldEarlier (p l : ℕ) (tile : List ℕ) : Said → List ℕ → Type 0 where

@@ -19,9 +19,8 @@ use Rattle.promise.specs.Answer.{Said, done, refused}
 use Rattle.promise.specs.Calls.{Admitted, TileLength, WriteTold, ReadTold, Looked, ByLine, RepairTold, Has, FillTold}
 use Rattle.promise.specs.Admit.{admitted-well, admitted-no, admitted-low, admitted-alike, slope-of}
 use Rattle.promise.specs.Name.{named-in}
-use Rattle.promise.specs.Doubt.{Doubt, reach-once, doubt-several, several-doubt, doubt-bytes}
+use Rattle.promise.specs.Doubt.{Doubt, reach-once, doubt-several, several-doubt, doubt-bytes, repairs}
 use Rattle.promise.specs.Once.{write-told-once, read-told-once, repair-told-once, fill-told-once}
-use Rattle.promise.specs.Promise.{repairs}
 
 -- ---- both kinds alike, where the slope is allowed
 

@@ -12,17 +12,17 @@ use Rattle.code.specs.Tile.{tileLength, textLength, Good, textOf, EqualOutside,
 use Rattle.code.specs.OneLine.{number}
 use Rattle.code.specs.Distance.{Parallel}
 use Rattle.code.specs.Filling.{parallel-filled}
-use Rattle.code.specs.Count.{Only, only-several, once-only, none-over, only-over, several-over}
+use Rattle.code.specs.Count.{once-only, none-over, only-over, several-over}
 use Rattle.code.specs.Fillings.{Sure, fills-once}
 use Rattle.code.specs.declared.Kind.{Kind}
 use Rattle.code.specs.declared.Line.{Line}
-use Rattle.size.specs.Answer as size
 use Rattle.promise.specs.Answer.{Said, done, clean, cell, column, row, refused}
-use Rattle.promise.specs.Calls.{Admitted, TileLength, WriteTold, ReadTold, Looked, ByLine, OneByte, Named, by-cell, RepairTold, Has, Done, FillTold}
+use Rattle.promise.specs.Calls.{WriteTold, ReadTold, Looked, ByLine, OneByte, Named, by-cell, RepairTold, Has, Done, FillTold}
 use Rattle.promise.specs.Admit.{admits, admitted-well, admitted-no, slope-of}
 use Rattle.promise.specs.Name.{named-line, named-in}
-use Rattle.promise.specs.Doubt.{cell-only, reach-once, good-only, looked-hurt}
+use Rattle.promise.specs.Doubt.{cell-only, reach-once, good-only, repairs}
 use Rattle.promise.specs.Once.{read-told-once, repair-told-once, fill-told-once}
+use Rattle.promise.specs.Kinds.{repair-sure}
 
 -- a tile that was written is read, and what is read is the text that was written
 pub read-after-write : (k : Kind) (p l : ℕ) (text tile new page : List ℕ) (said : Said) (page′ : List ℕ) → WriteTold k p l text tile done new
@@ -33,11 +33,6 @@ read-after-write k p l text tile new page said page′ (WriteTold.writes h w) e 
     (t .0, t .1 ∙ w .has)
 
 -- ---- repair
-
--- what comes of looking at those that explain a tile is what repair answers: the tile is not good
-pub repairs : {k : Kind} {p l : ℕ} {tile new : List ℕ} {said : Said} → Admitted k p l (TileLength p tile) size.well
-    → Looked (ByLine p l tile) (Named p tile) tile said new → RepairTold k p l tile said new
-repairs {k} {p} {l} {tile} h q = RepairTold.is-hurt h (looked-hurt p l tile (slope-of h) (admitted-well h .2) q) q
 
 -- a good tile is answered Clean, and not touched
 pub repair-good : (k : Kind) (p l : ℕ) (tile : List ℕ) (said : Said) (new : List ℕ) → Size p → Takes k p l → length tile ≡ tileLength p → Good p l tile
@@ -62,24 +57,11 @@ module _ (k : Kind) (p l : ℕ) (a : Line) (x tile : List ℕ) (s : Size p) (ex 
 
   -- AT AN ALLOWED SLOPE it is repaired to itself, and never refused
   pub repair-one-line : (said : Said) (new : List ℕ) → Allowed p l → RepairTold k p l tile said new → (new ≡ x) × ((n : ℕ) → said ≡ refused n → ⊥)
-  repair-one-line said new w told = (repaired told, λ n q. not-refused (rw q at told))
+  repair-one-line said new w told = sure (repair-or-doubt (allowed-taken k p l w) told)
     where
-      -- it is explained by x alone
-      once : Only (ByLine p l tile) x
-      once = once-only (reach-once p l tile (taken-slope k p l s (allowed-taken k p l w)) (w .reach)) itself
-
-      repaired : {said : Said} {new : List ℕ} → RepairTold k p l tile said new → new ≡ x
-      repaired (RepairTold.refuses h) = absurd (admitted-no h (s, allowed-taken k p l w, e))
-      repaired (RepairTold.is-good h f) = once .only tile (good-only p l tile (slope-of h) e f .is)
-      repaired (RepairTold.is-hurt {new} h bad (Looked.one o n)) = once .only new (o .is)
-      repaired (RepairTold.is-hurt h bad (Looked.none f)) = absurd (f x itself)
-      repaired (RepairTold.is-hurt h bad (Looked.several d)) = absurd (only-several once d)
-
-      not-refused : {n : ℕ} {new : List ℕ} → RepairTold k p l tile (refused n) new → ⊥
-      not-refused (RepairTold.refuses h) = admitted-no h (s, allowed-taken k p l w, e)
-      not-refused (RepairTold.is-hurt h bad (Looked.one o n)) = named-in n
-      not-refused (RepairTold.is-hurt h bad (Looked.none f)) = f x itself
-      not-refused (RepairTold.is-hurt h bad (Looked.several d)) = only-several once d
+      sure : ((new ≡ x) × ((n : ℕ) → said ≡ refused n → ⊥)) ⊎ (said ≡ refused 8) → (new ≡ x) × ((n : ℕ) → said ≡ refused n → ⊥)
+      sure (inl q) = q
+      sure (inr q) = absurd (repair-sure w (rw q at told))
 
 -- THE NAME of what happened to a good tile is the answer: the cell where one byte was changed, at every slope ..
 pub repair-cell : (k : Kind) (p l : ℕ) (x tile : List ℕ) (i j : ℕ) (said : Said) (new : List ℕ) → Size p → Takes k p l

@@ -28,9 +28,8 @@ use Rattle.size.specs.Shams.{size-5, at-5-2}
 use Rattle.promise.specs.Answer.{Said, done, clean, column, row, refused}
 use Rattle.promise.specs.Calls.{Admitted, TileLength, WriteTold, ReadTold, Looked, Explains, ByLine, by-cell, by-column, by-row, RepairTold, FillTold}
 use Rattle.promise.specs.Admit.{admits}
-use Rattle.promise.specs.Doubt.{reach-once}
+use Rattle.promise.specs.Doubt as doubt
 use Rattle.promise.specs.Once.{Single, write-told-once, read-told-once, repair-told-once, fill-told-once}
-use Rattle.promise.specs.Promise as promise
 use Rattle.promise.specs.Decide.{Test, never, so, both, some, equal, at-most, same, sumOf, good, common-is, not-good, outside, differing, filling, explaining, more-bytes, one-byte, none, no-line, uncrossed, no-filling, order-is, Each, each, numbered}
 
 -- ---- the tiles
@@ -179,7 +178,7 @@ order-5-2 = order-is 5 2 4 .shows tt
 
 -- by whatever a line explains a tile, it is the only one
 pub sole : {a : Line} (x y : List ℕ) → Explains 5 2 a x y → Only (ByLine 5 2 x) y
-sole {a} x y e = once-only (reach-once 5 2 x slope-5-2 (at-5-2 .reach)) (record { line = a; explains = e })
+sole {a} x y e = once-only (doubt.reach-once 5 2 x slope-5-2 (at-5-2 .reach)) (record { line = a; explains = e })
 
 -- what repair says and leaves, of a tile that is admitted
 abbrev Mends : List ℕ → Said → List ℕ → Type 0
@@ -189,11 +188,11 @@ unfoldable pub mends : (x : List ℕ) (s : Said) (y : List ℕ) → Test (Mends 
 mends x done y = never
 mends x clean y = so (both (same y x) (good 5 2 x)) (λ t k h. rw (t .0) (RepairTold.is-good h (t .1)))
 mends x (Said.cell i j) y =
-    so (both (explaining 5 2 (Column j) x y) (one-byte 5 x y i j)) (λ t k h. promise.repairs h (Looked.one (sole x y (t .0)) (by-cell (t .1))))
+    so (both (explaining 5 2 (Column j) x y) (one-byte 5 x y i j)) (λ t k h. doubt.repairs h (Looked.one (sole x y (t .0)) (by-cell (t .1))))
 mends x (column c) y =
-    so (both (explaining 5 2 (Column c) x y) (more-bytes 5 (Column c) x y)) (λ t k h. promise.repairs h (Looked.one (sole x y (t .0)) (by-column (t .1))))
+    so (both (explaining 5 2 (Column c) x y) (more-bytes 5 (Column c) x y)) (λ t k h. doubt.repairs h (Looked.one (sole x y (t .0)) (by-column (t .1))))
 mends x (row r) y =
-    so (both (explaining 5 2 (Row r) x y) (more-bytes 5 (Row r) x y)) (λ t k h. promise.repairs h (Looked.one (sole x y (t .0)) (by-row (t .1))))
+    so (both (explaining 5 2 (Row r) x y) (more-bytes 5 (Row r) x y)) (λ t k h. doubt.repairs h (Looked.one (sole x y (t .0)) (by-row (t .1))))
 mends x (refused n) y =
     so (both (equal n 5) (both (same y x) (both (not-good 5 2 x) (no-line 5 2 slope-5-2 x)))) (λ t k h.
     rw (t .0, t .1 .0) (RepairTold.is-hurt h (t .1 .1 .0) (Looked.none (t .1 .1 .1 (t .1 .1 .0)))))

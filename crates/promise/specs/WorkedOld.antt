@@ -21,9 +21,8 @@ use Rattle.size.specs.Shams.{size-7}
 use Rattle.promise.specs.Answer.{Said, done, clean, refused}
 use Rattle.promise.specs.Calls.{Admitted, TileLength, ReadTold, Looked, Explains, OneByte, by-cell, RepairTold, FillTold}
 use Rattle.promise.specs.Admit.{admits}
-use Rattle.promise.specs.Doubt.{cell-only}
+use Rattle.promise.specs.Doubt.{cell-only, repairs}
 use Rattle.promise.specs.Once.{read-told-once, repair-told-once, fill-told-once}
-use Rattle.promise.specs.Promise.{repairs}
 use Rattle.promise.specs.Decide.{good, outside, differing, filling, explaining, one-byte, no-filling, uncrossed, order-is}
 use Rattle.promise.specs.Worked.{Exactly, exactly}
 
