@@ -10,6 +10,7 @@ void cases_tile(void);
 void cases_repair(void);
 void cases_fill(void);
 void cases_doubtful(void);
+void cases_margin(void);
 void cases_sheet(void);
 void cases_reel(void);
 void cases_edges(void);

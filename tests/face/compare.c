@@ -19,6 +19,7 @@ int main(void)
         {"repair", cases_repair},
         {"fill", cases_fill},
         {"old tiles that are doubtful", cases_doubtful},
+        {"the margin", cases_margin},
         {"correction sheets", cases_sheet},
         {"reels", cases_reel},
         {"edges, and two faults at once", cases_edges},

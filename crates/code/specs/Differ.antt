@@ -11,7 +11,7 @@ use Rattle.code.specs.declared.Line.{Line}
 use Rattle.code.specs.declared.Line.the-variants.{Row, Column}
 
 -- a cell is on a line, or it is not
-on-or-off : (a : Line) (i j : ℕ) → Dec (On a i j)
+pub on-or-off : (a : Line) (i j : ℕ) → Dec (On a i j)
 on-or-off (Row r) i j = ℕ-discrete i r
 on-or-off (Column c) i j = ℕ-discrete j c
 

@@ -1,6 +1,6 @@
--- DISTANCE (Theorem 3.1 of the paper, one direction): two good tiles are equal if some two lines hold all their differences (SPEC 4.5). Two
--- columns or two rows ask nothing of the slope but that it is from 2 to p-2; a row with a column asks that its powers reach all.
--- Assumes nothing.
+-- DISTANCE (one half of Theorem 3.1 of the paper, of which all is in `Lost`): two good tiles are equal if some two lines hold all their
+-- differences (SPEC 4.5). Two columns or two rows ask nothing of the slope but that it is from 2 to p-2; a row with a column asks that its
+-- powers reach all. Assumes nothing.
 use mathlib.Core.Path.{_≡_, refl, ap, _∙_}
 use mathlib.Core.Logic.{_⊎_, inl, inr, ⊎-elim}
 use mathlib.Core.Bool.{Bool, true, false}

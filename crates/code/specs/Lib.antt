@@ -1,4 +1,4 @@
--- The tile code: what a reader must believe (`Says`, `Tile`, `Kind`, `Count`), and the paper's theorems, proved from that.
+-- The tile code: what a reader must believe (`Says`, `Tile`, `Kind`, `Count`, `Margin`), and the paper's theorems, proved from that.
 pub mod Says
 pub mod Slope
 pub mod Kind
@@ -25,3 +25,5 @@ pub mod Count
 pub mod Doubtful
 pub mod Fillings
 pub mod Writing
+pub mod Margin
+pub mod Lost

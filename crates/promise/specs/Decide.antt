@@ -87,7 +87,7 @@ pub equal-passes : (m n : ℕ) → m ≡ n → T (eqb m n)
 equal-passes m n e = rw e (eqb-refl n)
 
 -- f and g are equal below n, and pass if they are
-abbrev equals : (f g : ℕ → ℕ) (n : ℕ) → Test ((k : ℕ) → k < n → f k ≡ g k)
+abbrev pub equals : (f g : ℕ → ℕ) (n : ℕ) → Test ((k : ℕ) → k < n → f k ≡ g k)
 equals f g n = below (λ k. f k ≡ g k) n (λ k. equal (f k) (g k))
 
 pub equals-pass : (f g : ℕ → ℕ) (n : ℕ) → ((k : ℕ) → k < n → f k ≡ g k) → T (equals f g n .pass)

@@ -7,6 +7,7 @@ pub mod Explain
 pub mod Doubt
 pub mod Once
 pub mod Promise
+pub mod Bought
 pub mod Carry
 pub mod Kinds
 pub mod Earlier

@@ -16,6 +16,7 @@ use Rattle.residue.specs.Order.{Order}
 use Rattle.code.specs.Slope.{Slope}
 use Rattle.code.specs.Kind.{Takes, taken-slope, allowed-taken}
 use Rattle.code.specs.Count.{Only, once-only}
+use Rattle.code.specs.Margin.{TwoGood, EqualOutsideThree}
 use Rattle.code.specs.Fillings.{fills-once}
 use Rattle.code.specs.Place.{text-length}
 use Rattle.code.specs.OneLine.{number}
@@ -30,7 +31,7 @@ use Rattle.promise.specs.Calls.{Admitted, TileLength, WriteTold, ReadTol
 use Rattle.promise.specs.Admit.{admits}
 use Rattle.promise.specs.Doubt as doubt
 use Rattle.promise.specs.Once.{Single, write-told-once, read-told-once, repair-told-once, fill-told-once}
-use Rattle.promise.specs.Decide.{Test, never, so, both, some, equal, at-most, same, sumOf, good, common-is, not-good, outside, differing, filling, explaining, more-bytes, one-byte, none, no-line, uncrossed, no-filling, order-is, Each, each, numbered}
+use Rattle.promise.specs.Decide.{Test, never, so, both, some, equal, at-most, equals, same, sumOf, good, common-is, not-good, outside, differing, filling, explaining, more-bytes, one-byte, none, no-line, uncrossed, no-filling, order-is, Each, each, numbered}
 
 -- ---- the tiles
 
@@ -261,3 +262,17 @@ claimed k = numbered Claim (writes text-1 tile-1 0) (worked .0) cases worked (k 
 -- and of the others, from 1 in the order in which they stand above
 pub other-claimed : (k : ℕ) → Claim (getD others (k - 1) (spoiled changed-3))
 other-claimed k = numbered Claim (spoiled changed-3) (others-worked .0) others others-worked (k - 1)
+
+-- SPEC 10, the margin: zeros and tile 1 are good and different, and agree outside columns 0, 2 and 3
+pub worked-pair : TwoGood 5 2 zeros tile-1 × EqualOutsideThree 5 (Column 0) (Column 2) (Column 3) zeros tile-1
+unfolding good upTo sum cell place xorBelow _⊕_
+worked-pair = (
+  record {
+    size = refl;
+    size-other = refl;
+    good = good 5 2 zeros .shows tt;
+    good-other = good 5 2 tile-1 .shows tt;
+    apart = λ e. let q : getD zeros 0 0 ≡ getD tile-1 0 0 = ap (λ (x : List ℕ). getD x 0 0) e in omega arith;
+  },
+  λ i j hi hj d e f. let q : j ≡ 1 = omega arith in rw q (equals (λ r. cell 5 zeros r 1) (λ r. cell 5 tile-1 r 1) 4 .shows tt i hi),
+)

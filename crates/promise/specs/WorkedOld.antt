@@ -11,9 +11,10 @@ use Rattle.residue.specs.Test.{upTo}
 use Rattle.residue.specs.Order.{Order}
 use Rattle.code.specs.Slope.{Slope}
 use Rattle.code.specs.Kind.{taken-slope}
-use Rattle.code.specs.Tile.{textLength, place, cell, sum, Good, textOf, Fills}
+use Rattle.code.specs.Tile.{textLength, place, cell, sum, Good, textOf, EqualOutsideBoth, Fills}
 use Rattle.code.specs.Classes.{classSum}
 use Rattle.code.specs.Count.{None}
+use Rattle.code.specs.Margin.{TwoGood}
 use Rattle.code.specs.declared.Kind.the-variants.{Old}
 use Rattle.code.specs.declared.Line.the-variants.{Row, Column}
 use Rattle.size.specs.Answer as size
@@ -153,3 +154,8 @@ worked-17 = (
   λ page e. exactly (ReadTold Old 7 2 E page) (read-told-once Old 7 2 E page) done (textOf 7 E)
       (ReadTold.reads (admits size-7 (omega arith, omega arith) (refl, e)) (computed .good-E)),
 )
+
+-- SPEC 10, the margin: zeros and E are good and different, and agree outside row 0 and column 0
+pub worked-old-pair : TwoGood 7 2 zeros E × EqualOutsideBoth 7 (Row 0) (Column 0) zeros E
+worked-old-pair =
+    (record { size = refl; size-other = refl; good = computed .by-zeros .good; good-other = computed .good-E; apart = apart }, computed .by-E .agrees)
