@@ -28,17 +28,11 @@ static void hurt_besides(size_t p, enum besides besides)
         make_garbage(&chance, p, tile, GARBAGE_OF_BITS);
 }
 
-/* Whether a good tile comes back when these lines are lost (SPEC 5.4): not if they are a row with a column and the slope is not allowed. */
-static int can_be_filled(size_t p, size_t l, size_t first, size_t second)
-{
-    return is_row(first) == is_row(second) || allows(p, l);
-}
-
 /* What has to be said of two lines. If nothing else is hurt, the good tile comes back, or there are several. Whatever else is hurt, two
  * rows and two columns are filled, and what cannot be filled is not. */
 static void hold_filled(size_t p, size_t l, size_t first, size_t second, enum besides besides, uint64_t said)
 {
-    int can = can_be_filled(p, l, first, second), is_two_alike = is_row(first) == is_row(second) && first != second;
+    int can = may_lose(p, l, first, second), is_two_alike = is_row(first) == is_row(second) && first != second;
     if (besides == NOTHING)
         hold(said == (can ? word_done() : word_refused(DOUBTFUL)) && memcmp(tile, can ? good : lent, tile_length(p)) == 0,
              "p %zu, l %zu: lines %zx and %zx hex are filled otherwise, word %llx", p, l, first, second, (unsigned long long)said);

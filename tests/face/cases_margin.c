@@ -33,18 +33,11 @@ static int agree_outside(size_t p, const size_t *lines, size_t count)
     return 1;
 }
 
-/* SPEC 4.6: whether two lines may be lost. */
-static int may_lose(size_t p, size_t l, size_t first, size_t second)
-{
-    return is_row(first) == is_row(second) || allows(p, l);
-}
-
 static void hold_apart(size_t p, size_t l, size_t first, size_t second)
 {
     const size_t lines[] = {first, second};
     if (may_lose(p, l, first, second))
-        hold(!agree_outside(p, lines, 2), "p %zu, l %zu: two texts are written as tiles that agree outside lines %zx and %zx hex", p, l, first,
-             second);
+        hold(!agree_outside(p, lines, 2), "p %zu, l %zu: the tiles of two texts agree outside lines %zx and %zx hex", p, l, first, second);
 }
 
 /* Every two lines are lost in turn, and every line alone, as one that is named twice. */
@@ -73,12 +66,12 @@ static void each_letter_changed(size_t kind, size_t p, size_t l)
     }
 }
 
-/* Two texts of which some bytes are different, from one to all. At a large size not every two lines can be lost, so some are. */
+/* Two texts of which the first byte is different, and some others. At a large size not every two lines are tried, only some. */
 static void letters_changed(size_t kind, size_t p, size_t l)
 {
     make_text(&chance, p, TEXT_OF_ANY, text);
     memcpy(other, text, text_length(p));
-    for (size_t changes = 1 + chance_below(&chance, 2 * p); changes > 0; changes--)
+    for (size_t changes = chance_below(&chance, 2 * p); changes > 0; changes--)
         other[chance_below(&chance, text_length(p))] ^= chance_change(&chance);
     other[0] = text[0] ^ chance_change(&chance);
     write_both(kind, p, l);
@@ -152,9 +145,9 @@ static void every_crossing(size_t kind, size_t p, size_t l)
     }
 }
 
-/* Three lines of size 5, in the order in which they are gone through below, that hold all six cells in which zeros and tile 1 differ: column 2
- * has to be one, as (1, 2), (2, 2) and (3, 2) would need three rows; the others then hold (0, 0), (0, 3) and (1, 3). */
-static int hold_all_six(const size_t lines[3])
+/* Whether three lines hold all six cells in which zeros and tile 1 of SPEC 10 differ. One has to be column 2, as (1, 2), (2, 2) and (3, 2)
+ * would need three rows without it; and the others have to hold (0, 0), (0, 3) and (1, 3). Lines come with columns first, the last first. */
+static int have_all_six(const size_t lines[3])
 {
     static const size_t all[3][3] = {{0x8003, 0x8002, 0x8000}, {0x8003, 0x8002, 0}, {0x8002, 1, 0}};
     for (size_t k = 0; k < 3; k++)
@@ -177,7 +170,7 @@ static void worked_pair(void)
         for (size_t b = 0; b < a; b++) {
             for (size_t c = 0; c < b; c++) {
                 const size_t lines[] = {nth_line(5, a), nth_line(5, b), nth_line(5, c)};
-                hold(agree_outside(5, lines, 3) == hold_all_six(lines), "the worked pair and lines %zx, %zx and %zx hex", lines[0], lines[1],
+                hold(agree_outside(5, lines, 3) == have_all_six(lines), "the worked pair and lines %zx, %zx and %zx hex", lines[0], lines[1],
                      lines[2]);
             }
         }

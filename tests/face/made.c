@@ -165,6 +165,11 @@ int is_row(size_t line)
     return line < 0x8000;
 }
 
+int may_lose(size_t p, size_t l, size_t first, size_t second)
+{
+    return is_row(first) == is_row(second) || allows(p, l);
+}
+
 size_t nth_line(size_t p, size_t n)
 {
     return n < p - 1 ? row_name(n) : column_name(n - (p - 1));

@@ -68,6 +68,10 @@ size_t nth_line(size_t p, size_t n);
 
 int is_row(size_t line);
 
+/* Whether two lines of a good tile may be lost (SPEC 4.6), so that it comes back when they are filled (SPEC 5.4): not if they are a row with
+ * a column and the slope, which is from 2 to p-2, is not allowed. */
+int may_lose(size_t p, size_t l, size_t first, size_t second);
+
 /* A row, a column, or either, of a tile of size p. */
 size_t some_row(struct chance *chance, size_t p);
 size_t some_column(struct chance *chance, size_t p);
