@@ -202,8 +202,7 @@ zeros-good p l = record { common = 0; first = blank 1; second = blank l }
     blank : (s t : ℕ) → t < p → sum p s (cell p (zeros p)) t ≡ 0
     blank s t h = sum-zeros p s t (cell p (zeros p)) (tile-cells p (λ i j. 0) (record { row = λ j q. refl; column = λ i q. refl }))
 
--- THE MARGIN IS NO WIDER, at any slope: zeros, and a good tile whose text has one byte that is not zero, agree outside the column of that byte
--- and the two columns of checks
+-- THE MARGIN IS NO WIDER, at any slope: zeros and another good tile agree outside column 0 and the two columns of checks
 pub no-wider : (p l : ℕ) → Slope p l → WithinThree p l
 no-wider p l S = record {
   a = Column (p - 3);
