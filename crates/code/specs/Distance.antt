@@ -34,6 +34,22 @@ Parallel (Row r) (Column d) = ⊥
 Parallel (Column c) (Row s) = ⊥
 Parallel (Column c) (Column d) = Unit {0}
 
+-- what a law about two lines asks: that they are parallel, or that they are not
+pub parallel-or-not : (a b : Line) → (Parallel a b) ⊎ (Parallel a b → ⊥)
+parallel-or-not (Row r) (Row s) = inl tt
+parallel-or-not (Row r) (Column d) = inr (λ h. h)
+parallel-or-not (Column c) (Row s) = inr (λ h. h)
+parallel-or-not (Column c) (Column d) = inl tt
+
+-- where two lines cross, every line is parallel to one of them
+pub one-parallel : (a b d : Line) → (Parallel a b → ⊥) → (Parallel a d) ⊎ (Parallel b d)
+one-parallel (Row r) b (Row s) cross = inl tt
+one-parallel (Column c) b (Column k) cross = inl tt
+one-parallel (Row r) (Row s) (Column k) cross = absurd (cross tt)
+one-parallel (Row r) (Column c) (Column k) cross = inr tt
+one-parallel (Column c) (Row r) (Row s) cross = inr tt
+one-parallel (Column c) (Column k) (Row s) cross = absurd (cross tt)
+
 -- no cell but zeros
 abbrev pub Blank : ℕ → Cells → Type 0
 Blank p D = (i j : ℕ) → i < p → j < p → D i j ≡ 0

@@ -22,7 +22,7 @@ use Rattle.code.specs.Sums.{plus, lone, sum-zeros}
 use Rattle.code.specs.Place.{cell-byte, tileOf, tile-length, tile-in, tile-cells, tile-bytes}
 use Rattle.code.specs.OneLine.{number, rowAt, columnAt}
 use Rattle.code.specs.Differ.{on-or-off, differ-or-not, agree-at, nth-in}
-use Rattle.code.specs.Distance.{Parallel, equal-tiles}
+use Rattle.code.specs.Distance.{Parallel, parallel-or-not, one-parallel, equal-tiles}
 use Rattle.code.specs.Filling.{Filled, parallel-filled}
 use Rattle.code.specs.Doubtful.{second-filling}
 use Rattle.code.specs.Fillings.{Sure}
@@ -32,7 +32,11 @@ use Rattle.code.specs.declared.Line.the-variants.{Row, Column}
 
 -- ---- two lines
 
--- all cells are looked at: in one that is on neither line the tiles differ, or they agree outside both
+-- tiles that differ in a cell outside two lines do not agree outside them
+pub differ-not-agree : {p : ℕ} {a b : Line} {x y : List ℕ} → DifferOutside p a b x y → EqualOutsideBoth p a b x y → ⊥
+differ-not-agree d same = d .here .bytes (same _ _ (d .here .row) (d .here .column) (d .off) (d .off-other))
+
+-- and they do one or the other: all cells are looked at
 pub differ-or-agree : (p : ℕ) (a b : Line) (x y : List ℕ) → (DifferOutside p a b x y) ⊎ (EqualOutsideBoth p a b x y)
 differ-or-agree p a b x y = ⊎-elim
     (λ t. let c = t .2 in inl (record { row = t .0; column = c .0; here = c .2 .0; off = c .2 .1; off-other = c .2 .2 }))
@@ -56,10 +60,6 @@ differ-or-agree p a b x y = ⊎-elim
 
     in-row : (i : ℕ) → Dec (InRow i)
     in-row i = ⊎-elim yes (λ none. no (λ h. none (h .0) (h .1) (h .2))) (some-or-none (Here i) (here i) (p - 1))
-
--- it is one or the other
-differ-not-agree : {p : ℕ} {a b : Line} {x y : List ℕ} → DifferOutside p a b x y → EqualOutsideBoth p a b x y → ⊥
-differ-not-agree d same = d .here .bytes (same _ _ (d .here .row) (d .here .column) (d .off) (d .off-other))
 
 -- two rows and two columns may be lost at every slope, and where the powers reach all any two lines
 pub sure-lost : (p l : ℕ) (a b : Line) → Slope p l → Sure p l a b → MayLose p l a b
@@ -145,24 +145,11 @@ free-cell p (Row r) (Row s) (Row t) h side d e = (0, omega arith, λ q. d (ap Ro
 free-cell p (Column r) (Column s) (Column t) h side d e = (0, omega arith, λ q. d (ap Column (sym q)), λ q. e (ap Column (sym q)))
 free-cell p (Row r) (Row s) (Column t) h side d e = let k = neither r s in (k .0, omega (arith, k .1), k .2, k .3)
 free-cell p (Column r) (Column s) (Row t) h side d e = let k = neither r s in (k .0, omega (arith, k .1), k .2, k .3)
-free-cell p (Row r) (Column s) c h side d e = absurd side
-free-cell p (Column r) (Row s) c h side d e = absurd side
 
 -- two parallel lines that are different have different numbers
 numbers-apart : (a b : Line) → Parallel a b → a ≢ b → number a ≢ number b
 numbers-apart (Row r) (Row s) side d e = d (ap Row e)
 numbers-apart (Column r) (Column s) side d e = d (ap Column e)
-numbers-apart (Row r) (Column s) side d e = absurd side
-numbers-apart (Column r) (Row s) side d e = absurd side
-
--- of three lines two are parallel
-two-parallel : (a b c : Line) → (Parallel a b) ⊎ ((Parallel a c) ⊎ (Parallel b c))
-two-parallel (Row r) (Row s) c = inl tt
-two-parallel (Column r) (Column s) c = inl tt
-two-parallel (Row r) (Column s) (Row t) = inr (inl tt)
-two-parallel (Column r) (Row s) (Column t) = inr (inl tt)
-two-parallel (Row r) (Column s) (Column t) = inr (inr tt)
-two-parallel (Column r) (Row s) (Row t) = inr (inr tt)
 
 -- the k-th cell of a line is on it
 nth-on : (c : Line) (k i j : ℕ) → i ≡ rowAt c k → j ≡ columnAt c k → On c i j
@@ -183,20 +170,23 @@ module _ (p l : ℕ) (x : List ℕ) (S : Slope p l) (e : length x ≡ tileLength
       another-so (λ y same i j hi hj da db dc. same i j hi hj da db (λ q. dc (nth-on c (k .0) i j (q .0) (q .1))))
       (cell-changed p l a b (rowAt c (k .0)) (columnAt c (k .0)) x S side (numbers-apart a b side ab) ha hb (h .0) (h .1) (k .2) (k .3) e g)
 
-  -- NO THREE LINES MAY BE LOST, at any slope: whichever they are, each good tile has another one that agrees with it outside them
+  -- NO THREE LINES MAY BE LOST, at any slope: whichever they are, each good tile has another one that agrees with it outside them. For of three
+  -- lines two are parallel
   pub three-lost : (a b c : Line) → number a < p - 1 → number b < p - 1 → number c < p - 1 → a ≢ b → a ≢ c → b ≢ c → Another p l x (EqualOutsideThree p a b c x)
-  three-lost a b c ha hb hc ab ac bc = ⊎-elim (λ side. parallel-lost a b c side ha hb hc ab ac bc) (⊎-elim
+  three-lost a b c ha hb hc ab ac bc = ⊎-elim (λ side. parallel-lost a b c side ha hb hc ab ac bc)
+      (λ cross. ⊎-elim
       (λ side. another-so (λ y same i j hi hj da db dc. same i j hi hj da dc db) (parallel-lost a c b side ha hc hb ac ab (λ q. bc (sym q))))
-      (λ side. another-so (λ y same i j hi hj da db dc. same i j hi hj db dc da) (parallel-lost b c a side hb hc ha bc (λ q. ab (sym q)) (λ q. ac (sym q)))))
-      (two-parallel a b c)
+      (λ side. another-so (λ y same i j hi hj da db dc. same i j hi hj db dc da) (parallel-lost b c a side hb hc ha bc (λ q. ab (sym q)) (λ q. ac (sym q))))
+      (one-parallel a b c cross))
+      (parallel-or-not a b)
 
 -- ---- both together
 
 -- zeros are a good tile
-abbrev pub zeros : ℕ → List ℕ
+abbrev zeros : ℕ → List ℕ
 zeros p = tileOf p (λ i j. 0)
 
-pub zeros-good : (p l : ℕ) → Good p l (zeros p)
+zeros-good : (p l : ℕ) → Good p l (zeros p)
 zeros-good p l = record { common = 0; first = blank 1; second = blank l }
   where
     blank : (s t : ℕ) → t < p → sum p s (cell p (zeros p)) t ≡ 0

@@ -10,7 +10,7 @@ use Rattle.residue.specs.Power.{ReachesAll}
 use Rattle.code.specs.Slope.{Slope}
 use Rattle.code.specs.Tile.{tileLength, Good, Bytes}
 use Rattle.code.specs.Differ.{differ-on}
-use Rattle.code.specs.Distance.{Parallel}
+use Rattle.code.specs.Distance.{Parallel, parallel-or-not, one-parallel}
 use Rattle.code.specs.Filling.{line-filled}
 use Rattle.code.specs.Count.{Only, Several, OfBytes, AtMostOne, only-several}
 use Rattle.code.specs.declared.Kind.{Kind}
@@ -22,22 +22,6 @@ use Rattle.promise.specs.Calls.{Admitted, TileLength, Looked, Explains, 
 use Rattle.promise.specs.Admit.{admitted-well, slope-of}
 use Rattle.promise.specs.Name.{more-on}
 use Rattle.promise.specs.Explain.{explains-fills, good-explains, explains-on, parallel-self, explains-once, named-hurt, explains-has, explains-named, explained}
-
--- what a law about two lines asks: that they are parallel, or that they are not
-parallel-or-not : (a b : Line) → (Parallel a b) ⊎ (Parallel a b → ⊥)
-parallel-or-not (Row r) (Row s) = inl tt
-parallel-or-not (Row r) (Column d) = inr (λ h. h)
-parallel-or-not (Column c) (Row s) = inr (λ h. h)
-parallel-or-not (Column c) (Column d) = inl tt
-
--- where two lines cross, every line is parallel to one of them
-one-parallel : (a b d : Line) → (Parallel a b → ⊥) → (Parallel a d) ⊎ (Parallel b d)
-one-parallel (Row r) b (Row s) cross = inl tt
-one-parallel (Column c) b (Column k) cross = inl tt
-one-parallel (Row r) (Row s) (Column k) cross = absurd (cross tt)
-one-parallel (Row r) (Column c) (Column k) cross = inr tt
-one-parallel (Column c) (Row r) (Row s) cross = inr tt
-one-parallel (Column c) (Column k) (Row s) cross = absurd (cross tt)
 
 module _ (p l : ℕ) (x : List ℕ) (S : Slope p l) where
   -- ---- exactly one
