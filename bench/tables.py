@@ -2,7 +2,7 @@
 
 from measuring import SIZES
 
-# The ten works, each with the name of its case.
+# The eleven works, each with the name of its case.
 WORKS = {
     "write": "write",
     "read": "read",
@@ -12,6 +12,7 @@ WORKS = {
     "fill-columns": "fill, two columns",
     "fill-rows": "fill, two rows",
     "fill-crossed": "fill, a row with a column",
+    "judge": "judge, a row with a column",
     "correct-1": "correct, 1 record",
     "correct-100": "correct, 100 records",
 }
@@ -32,7 +33,7 @@ FLOORS = [("each byte read once", "plain XOR", "plain-xor"), ("each byte copied"
 # correction at the larger sizes than at the smaller ones. To copy the tile once, by memcpy, would make the last one about 1.3.
 READ_GOALS = {127: 3.5, 257: 2.2}
 BESIDE_READ_GOALS = {"repair-clean": 1} | dict.fromkeys(
-    ["repair-column", "repair-row", "fill-columns", "fill-rows", "fill-crossed", "write"], 2)
+    ["repair-column", "repair-row", "fill-columns", "fill-rows", "fill-crossed", "judge", "write"], 2)
 FURTHER_ROW_GOAL = 1.05
 
 

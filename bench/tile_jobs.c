@@ -1,4 +1,4 @@
-/* The jobs of the tile calls and of the sheet: the same ten for the library and for the independent implementation, whose
+/* The jobs of the tile calls and of the sheet: the same eleven for the library and for the independent implementation, whose
  * calls have the same parameters. */
 
 #include <string.h>
@@ -16,6 +16,7 @@ struct calls {
     uint64_t (*read)(size_t, size_t, size_t, const uint8_t *, size_t, uint8_t *, size_t);
     uint64_t (*repair)(size_t, size_t, size_t, uint8_t *, size_t);
     uint64_t (*fill)(size_t, size_t, size_t, uint8_t *, size_t, size_t, size_t);
+    uint64_t (*judge)(size_t, size_t, const uint8_t *, size_t, const uint8_t *, size_t, size_t, size_t);
     uint64_t (*correct)(size_t, size_t, size_t, uint8_t *, size_t, const uint8_t *, size_t, uint64_t *);
 };
 
@@ -24,7 +25,8 @@ struct given {
     const struct calls *calls;
     uint8_t *text;
     uint8_t *tile;
-    size_t first, second; /* the lines to fill */
+    uint8_t *scan;
+    size_t first, second; /* the lines to fill, or that were restored */
     uint8_t *sheet;
     size_t sheet_length;
 };
@@ -55,6 +57,13 @@ static uint64_t call_fill(const struct job *job, uint8_t *copy)
     const struct given *given = job->given;
 
     return given->calls->fill(CF_NEW, job->p, SLOPE, copy, job->length, given->first, given->second);
+}
+
+static uint64_t call_judge(const struct job *job, uint8_t *copy)
+{
+    const struct given *given = job->given;
+
+    return given->calls->judge(job->p, SLOPE, given->scan, job->length, copy, job->length, given->first, given->second);
 }
 
 /* Answers the count of records; for anything but Done, a number that no sheet has as its count. */
@@ -118,6 +127,17 @@ static void prepare_fill(struct job *job, struct given *given, uint8_t *damaged,
     job->call = call_fill;
     job->before = damaged;
     job->after = given->tile;
+    given->first = first;
+    given->second = second;
+}
+
+/* A judgement of the tile as it was, restored from a scan of which two lines are lost as a whole. */
+static void prepare_judge(struct job *job, struct given *given, uint8_t *damaged, size_t first, size_t second)
+{
+    job->call = call_judge;
+    job->before = given->tile;
+    job->after = given->tile;
+    given->scan = damaged;
     given->first = first;
     given->second = second;
 }
@@ -190,6 +210,10 @@ static bool prepare_tile_job(const struct calls *calls, const char *name, size_t
         damage_row(hurt, p, third);
         damage_column(hurt, p, two_thirds);
         prepare_fill(job, given, hurt, cf_row(third), cf_column(two_thirds));
+    } else if (strcmp(name, "judge") == 0) {
+        damage_row(hurt, p, third);
+        damage_column(hurt, p, two_thirds);
+        prepare_judge(job, given, hurt, cf_row(third), cf_column(two_thirds));
     } else if (strcmp(name, "correct-1") == 0) {
         prepare_correct(job, given, 1);
     } else if (strcmp(name, "correct-100") == 0) {
@@ -202,14 +226,14 @@ static bool prepare_tile_job(const struct calls *calls, const char *name, size_t
 
 bool prepare_counterfrost(const char *name, size_t p, struct job *job)
 {
-    static const struct calls calls = { cf_write, cf_read, cf_repair, cf_fill, cf_correct };
+    static const struct calls calls = { cf_write, cf_read, cf_repair, cf_fill, cf_judge, cf_correct };
 
     return prepare_tile_job(&calls, name, p, job);
 }
 
 bool prepare_peer(const char *name, size_t p, struct job *job)
 {
-    static const struct calls calls = { peer_write, peer_read, peer_repair, peer_fill, peer_correct };
+    static const struct calls calls = { peer_write, peer_read, peer_repair, peer_fill, peer_judge, peer_correct };
 
     return prepare_tile_job(&calls, name, p, job);
 }

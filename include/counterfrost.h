@@ -3,8 +3,9 @@
  *
  * A tile holds a text and two columns of checks. If one row or one column of it is hurt, cf_repair finds the line and puts it right
  * without being told which; if that was a single byte, it finds the very cell. If one or two lines are lost and you know which, cf_fill
- * fills them in. cf_correct changes single bytes of the text on a tile that may itself be hurt. Where there is no answer, or on an old tile
- * more than one, a call says so by a number and touches nothing.
+ * fills them in. cf_judge says whether a tile that somebody else restored is the one that cf_fill would make. cf_correct changes single
+ * bytes of the text on a tile that may itself be hurt. Where there is no answer, or on an old tile more than one, a call says so by a
+ * number and touches nothing.
  *
  * SIZES AND SLOPES
  *   The size p says how large a tile is: one byte less than p in each direction, so that size 5 is a tile of 4 by 4 bytes, and 257 one of
@@ -16,10 +17,10 @@
  *   there are is told by cf_takes. docs/SPEC.md has the rules.
  *
  * NEW TILES AND OLD ONES
- *   Whoever tells a call p and l tells it the kind of the tile before them. Take CF_NEW for all that you write: such a tile has one of the
- *   slopes that are allowed at p, and a lost row with a lost column has one filling there or none. CF_OLD is for tiles that were printed in
- *   earlier years, and takes every slope from 2 to p-2. Any number but 1 counts as CF_NEW, the stricter one. A reel carries the kind with
- *   each tile, and cf_next gives it.
+ *   Whoever tells a call p and l tells it the kind of the tile before them; cf_judge takes new tiles alone, and is told none. Take CF_NEW
+ *   for all that you write: such a tile has one of the slopes that are allowed at p, and a lost row with a lost column has one filling
+ *   there or none. CF_OLD is for tiles that were printed in earlier years, and takes every slope from 2 to p-2. Any number but 1 counts as
+ *   CF_NEW, the stricter one. A reel carries the kind with each tile, and cf_next gives it.
  *   At a slope that is not allowed, a lost row with a lost column has no filling or several, and never just one; and now and then damage
  *   can be put right in two ways, by a column and by a row, which gives two different tiles. Such a call is refused with 8, and the tile
  *   stays as it was: the projectionist's old reader took the first of two fillings. All other damage, two lost rows or two lost columns
@@ -30,7 +31,8 @@
  *   Every call but cf_version answers one 64-bit word: a kind of answer, and two numbers. cf_kind, cf_first and cf_second take it apart.
  *
  *     kind              first         second        means
- *     CF_KIND_DONE      0             0             done; for cf_repair: nothing was hurt; for cf_next: a tile stands here
+ *     CF_KIND_DONE      0             0             done; for cf_repair: nothing was hurt; for cf_judge: accepted; for cf_next: a tile
+ *                                                   stands here
  *     CF_KIND_DONE      the slope     0             for cf_house_slope only
  *     CF_KIND_COLUMN    the column    0             cf_repair put two bytes or more right, all in this column
  *     CF_KIND_ROW       the row       0             cf_repair put two bytes or more right, all in this row
@@ -47,6 +49,8 @@
  *   the kind, which comes before the others and is the one to give for that tile; a record that begins with 5D D5 was refused 6 before, and
  *   is an old tile now.
  *
+ *   Up to version 0.4.0 there was no cf_judge, and no refusal above 8.
+ *
  * REFUSALS
  *   A refused call changes no byte of a tile or text. Its number says why, and cf_refusal_words has words for it. Where several apply, the
  *   one that the call's own text below names first is given.
@@ -54,12 +58,17 @@
  *     1 CF_BAD_SIZE     p is not a size
  *     2 CF_BAD_SLOPE    l is not a slope that the kind can use at p
  *     3 CF_BAD_LENGTH   a tile or a text has another length than p asks for
- *     4 CF_BAD_PLACE    the tile does not have a line to be filled (they end at p-2), or the text does not have a place to be corrected (its
- *                       rows end at p-2, its columns at p-4)
+ *     4 CF_BAD_PLACE    the tile does not have a line that was named (they end at p-2), or the text does not have a place to be corrected
+ *                       (its rows end at p-2, its columns at p-4)
  *     5 CF_DAMAGED      cf_read: the tile is not good; cf_repair, cf_fill: no such repair exists
  *     6 CF_BAD_MARK     a record of a sheet does not begin with its mark, or one of a reel with neither of its two
  *     7 CF_CUT_SHORT    a sheet or a reel ends within a record
  *     8 CF_DOUBTFUL     cf_repair, cf_fill, of an old tile: two different good tiles would do, and nothing tells which was printed
+ *    10 CF_NOT_GOOD     cf_judge: the restored tile is not good
+ *    11 CF_DIFFERS_ELSEWHERE
+ *                       cf_judge: the restored tile is good, and differs from the scan outside the named lines
+ *
+ *   9 is said by no call.
  *
  * WHO OWNS WHAT
  *   All memory is yours. A call uses it until it returns, and keeps no pointer; it allocates nothing, and holds no state, so calls may
@@ -83,14 +92,15 @@ extern "C" {
 
 /* The version of this header: 10000 times the first of its numbers, 100 times the second, and the third. cf_version gives that of the
  * library. Until 1.0.0 calls may change where the second number does; the shared library is named by these two. */
-#define CF_VERSION 400
-#define CF_VERSION_TEXT "0.4.0"
+#define CF_VERSION 500
+#define CF_VERSION_TEXT "0.5.0"
 
 /* The kinds of a tile, which a call is told before p and l, and which cf_next gives back. Any number but 1 counts as new. */
 #define CF_NEW 0u
 #define CF_OLD 1u
 
-/* The kinds of an answer. The lines that cf_fill is given are named by cf_row and cf_column, further below, and not by these. */
+/* The kinds of an answer. The lines that cf_fill and cf_judge are told are named by cf_row and cf_column, further below, and not by
+ * these. */
 #define CF_KIND_DONE 0u
 #define CF_KIND_COLUMN 1u
 #define CF_KIND_ROW 2u
@@ -107,6 +117,8 @@ extern "C" {
 #define CF_BAD_MARK 6u
 #define CF_CUT_SHORT 7u
 #define CF_DOUBTFUL 8u
+#define CF_NOT_GOOD 10u
+#define CF_DIFFERS_ELSEWHERE 11u
 
 /* The version of the library, a number as CF_VERSION is. */
 uint64_t cf_version(void);
@@ -144,6 +156,19 @@ uint64_t cf_repair(size_t kind, size_t p, size_t l, uint8_t *tile, size_t tile_l
  * is not allowed never can: it is refused with 5 or 8, whatever the bytes.
  */
 uint64_t cf_fill(size_t kind, size_t p, size_t l, uint8_t *tile, size_t tile_len, size_t first, size_t second);
+
+/*
+ * Judges a tile that somebody restored from a scan, by hand or by other means, and the one or two lines that are said to have been hurt.
+ * These are named as for cf_fill. Both tiles have the size p and the slope l, which has to be one that CF_NEW can use. Nothing is written,
+ * so the two may lie in the same memory.
+ *
+ * CF_KIND_DONE: accepted. The restored tile is good, and is the same as the scan outside the named lines; so it is the very tile that
+ * cf_fill makes of the scan when it is told these lines, and cf_fill is done there. What cf_fill makes is always accepted, and no other
+ * tile is. Refused 1, 2, 3 where either tile has another length, 4 for a line that the tiles do not have, 10 where the restored tile is
+ * not good, or 11 where it is good, and differs from the scan in a byte outside these lines.
+ */
+uint64_t cf_judge(size_t p, size_t l, const uint8_t *scan, size_t scan_len, const uint8_t *restored, size_t restored_len, size_t first,
+                  size_t second);
 
 /*
  * Corrects the text of a tile by a sheet: records of 8 bytes, one behind the other, as cf_lay_correction lays them. The tile need not be
@@ -202,13 +227,17 @@ static inline const char *cf_refusal_words(unsigned refusal)
         return "a sheet or a reel ends within a record";
     case CF_DOUBTFUL:
         return "the tile is doubtful: two different good tiles would do, and nothing tells which was printed";
+    case CF_NOT_GOOD:
+        return "the restored tile is not good";
+    case CF_DIFFERS_ELSEWHERE:
+        return "the restored tile differs from the scan outside the named lines";
     default:
         return "no refusal has this number";
     }
 }
 
-/* The name of a row and of a column, for cf_fill. A number of 7fff hex or more is named as 7fff hex: no tile has that line, and it is
- * refused 4. */
+/* The name of a row and of a column, for cf_fill and cf_judge. A number of 7fff hex or more is named as 7fff hex: no tile has that line,
+ * and it is refused 4. */
 static inline size_t cf_row(size_t row) { return row < 0x7fffu ? row : 0x7fffu; }
 
 static inline size_t cf_column(size_t column) { return 0x8000u + (column < 0x7fffu ? column : 0x7fffu); }

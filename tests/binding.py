@@ -58,6 +58,16 @@ def doubted(call, *ones):
     return said if tile == lent else tile
 
 
+# The scan and the filling of worked tile 9.
+SCAN = bytes(5) + b"\x01" + bytes(10)
+FILLED = bytes([0, 1, 0, 1, 1, 1, 0, 0, 1, 0, 0, 0, 1, 0, 0, 0])
+
+
+def judged(restored, first=row(0), second=column(0)):
+    """The refusal of a tile that was restored from this scan; None where it is accepted."""
+    return refusal(library.judge, 5, 2, SCAN, restored, first, second)
+
+
 HEADER = (Path(sys.argv[2]).parent.parent / "include" / "counterfrost.h").read_text()
 
 zeros = bytearray(16)
@@ -85,6 +95,14 @@ checks = {
     "worked tiles 4 to 6": ([repaired(11), repaired(0, 4), repaired(0, 1)], [("cell", 2, 3), ("column", 0), ("row", 0)]),
     "worked tiles 13 and 14": ([doubted(library.fill), doubted(library.repair, 6, 12, 24)], [(8, 0)] * 2),
     "worked tile 15": (doubted(library.fill, 7), (5, 0)),
+    "worked judgements": (
+        [judged(FILLED), judged(bytes(16)), judged(SCAN), judged(bytes(11) + b"\x01" + bytes(4))],
+        [None, (11, 0), (10, 0), (10, 0)],
+    ),
+    "a line alone": ([judged(FILLED, row(0), row(0)), judged(FILLED, column(0), column(0))], [(11, 0)] * 2),
+    "no line to judge": ([judged(FILLED, row(0), column(4)), judged(FILLED, row(2**70), row(0))], [(4, 0)] * 2),
+    "no length to judge": ([judged(FILLED[1:]), judged(b"")], [(3, 0)] * 2),
+    "no slope to judge": ([refusal(library.judge, 7, l, bytes(36), bytes(36), row(0), row(0)) for l in (2, 3, 6)], [(2, 0), None, (2, 0)]),
     "the empty reel": (list(library.tiles(b"")), []),
 }
 wrong = {name: got for name, (got, asked) in checks.items() if got != asked}

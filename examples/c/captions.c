@@ -1,7 +1,8 @@
 /*
- * The life of one tile: a caption is written, a splice takes a row and a scratch a column, both are filled in; then a second
- * scratch goes through the very letter that has to be corrected, the letter is corrected all the same, the scratch is repaired,
- * and so is a single byte that a grain of dust has changed; and the caption is read.
+ * The life of one tile: a caption is written, a splice takes a row and a scratch a column, both are filled in; a lab that restored
+ * the same scan is judged, once with every byte right and once with one that is wrong; then a second scratch goes through the very
+ * letter that has to be corrected, the letter is corrected all the same, the scratch is repaired, and so is a single byte that a
+ * grain of dust has changed; and the caption is read.
  */
 #include "counterfrost.h"
 
@@ -71,9 +72,19 @@ static void repair(size_t slope, uint8_t tile[TILE])
     }
 }
 
+/* Judges a tile that was restored from a scan of which row 4 and column 9 were lost. */
+static void judge(size_t slope, const uint8_t scan[TILE], const uint8_t restored[TILE])
+{
+    uint64_t answer = cf_judge(SIZE, slope, scan, TILE, restored, TILE, cf_row(4), cf_column(9));
+    if (cf_kind(answer) == CF_KIND_DONE)
+        printf("judged: accepted\n");
+    else
+        printf("judged: refused %u\n", cf_refusal(answer));
+}
+
 int main(void)
 {
-    uint8_t text[TEXT], tile[TILE], sheet[8];
+    uint8_t text[TEXT], tile[TILE], scan[TILE], by_hand[TILE], sheet[8];
     uint64_t records;
     size_t wrong_letter = (size_t)(strstr(CAPTION, "noom") + 3 - CAPTION);
     size_t slope = cf_first(accepted("cf_house_slope", cf_house_slope(SIZE)));
@@ -84,8 +95,14 @@ int main(void)
 
     splice(tile, 4);
     scratch(tile, 9);
+    memcpy(scan, tile, TILE);
     accepted("cf_fill", cf_fill(CF_NEW, SIZE, slope, tile, TILE, cf_row(4), cf_column(9)));
     printf("filled: row 4 and column 9\n");
+
+    judge(slope, scan, tile);
+    memcpy(by_hand, tile, TILE);
+    dust(by_hand, 4, 2);
+    judge(slope, scan, by_hand);
 
     scratch(tile, wrong_letter % TEXT_COLUMNS);
     cf_lay_correction(sheet, wrong_letter / TEXT_COLUMNS, wrong_letter % TEXT_COLUMNS, 'm', 'n');

@@ -41,6 +41,15 @@ def repair(library, slope, tile):
         print("not hurt")
 
 
+def judge(library, slope, scan, restored):
+    """Judges a tile that was restored from a scan of which row 4 and column 9 were lost."""
+    try:
+        library.judge(SIZE, slope, scan, restored, row(4), column(9))
+        print("judged: accepted")
+    except counterfrost.Refused as no:
+        print("judged: refused", no.number)
+
+
 def main():
     library = Counterfrost(*sys.argv[1:])
     slope = library.house_slope(SIZE)
@@ -50,8 +59,14 @@ def main():
 
     splice(tile, 4)
     scratch(tile, 9)
+    scan = bytes(tile)
     library.fill(NEW, SIZE, slope, tile, row(4), column(9))
     print("filled: row 4 and column 9")
+
+    judge(library, slope, scan, tile)
+    by_hand = bytearray(tile)
+    dust(by_hand, 4, 2)
+    judge(library, slope, scan, by_hand)
 
     wrong_letter = CAPTION.index(b"noom") + 3
     scratch(tile, wrong_letter % TEXT_COLUMNS)

@@ -1,14 +1,14 @@
 """The calls of include/counterfrost.h for Python, by ctypes, from the shared library.
 
 Texts, sheets and reels come in as bytes, and tiles that a call may change as bytearrays; a refusal is raised as Refused. A call that is
-told a size and a slope is told the kind of the tile first, NEW or OLD.
+told a size and a slope is told the kind of the tile first, NEW or OLD; judge, which takes new tiles alone, is not.
 """
 
 import ctypes
 import platform
 from ctypes import byref, c_size_t, c_uint8, c_uint64
 
-NAMED_AS = "libcounterfrost.so.0.4"  # the calls below are those of this version
+NAMED_AS = "libcounterfrost.so.0.5"  # the calls below are those of this version
 
 NEW = 0  # takes the slopes that are allowed at its size
 OLD = 1  # takes every slope from 2 to p-2; where the slope is not allowed, a repair or a filling may be doubtful, which is refused 8
@@ -22,6 +22,8 @@ WORDS = {
     6: "a record does not begin with a mark",
     7: "a sheet or a reel ends within a record",
     8: "the tile is doubtful: two different good tiles would do, and nothing tells which was printed",
+    10: "the restored tile is not good",
+    11: "the restored tile differs from the scan outside the named lines",
 }
 
 
@@ -35,12 +37,12 @@ class Refused(Exception):
 
 
 def row(number):
-    """A row, for fill."""
+    """A row, for fill and judge."""
     return min(number, 0x7FFF)
 
 
 def column(number):
-    """A column, for fill."""
+    """A column, for fill and judge."""
     return 0x8000 + min(number, 0x7FFF)
 
 
@@ -112,6 +114,10 @@ class Counterfrost:
     def fill(self, kind, p, l, tile, first, second):
         """Fills one or two lost lines, in place; one line is named twice."""
         self._ask("cf_fill", _number(kind), _number(p), _number(l), *_lent(tile), _number(first), _number(second))
+
+    def judge(self, p, l, scan, restored, first, second):
+        """Raises Refused unless the restored tile is the one that fill makes of the scan; one line is named twice. Nothing is changed."""
+        self._ask("cf_judge", _number(p), _number(l), *_read_only(scan), *_read_only(restored), _number(first), _number(second))
 
     def correct(self, kind, p, l, tile, sheet):
         """Corrects a tile, sound or damaged, by a sheet, in place, and counts its records."""

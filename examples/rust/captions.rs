@@ -34,6 +34,14 @@ fn repair(slope: usize, tile: &mut [u8]) -> Result<(), Refused> {
     Ok(())
 }
 
+/// Judges a tile that was restored from a scan of which row 4 and column 9 were lost.
+fn judge(slope: usize, scan: &[u8], restored: &[u8]) {
+    match counterfrost::judge(SIZE, slope, scan, restored, Line::Row(4), Line::Column(9)) {
+        Ok(()) => println!("judged: accepted"),
+        Err(Refused { number, .. }) => println!("judged: refused {number}"),
+    }
+}
+
 fn main() -> Result<(), Refused> {
     let slope = counterfrost::house_slope(SIZE)?;
     let mut text = [b' '; ROWS * TEXT_COLUMNS];
@@ -44,8 +52,14 @@ fn main() -> Result<(), Refused> {
 
     tile[4 * COLUMNS..5 * COLUMNS].fill(0);
     scratch(&mut tile, 9);
+    let scan = tile;
     counterfrost::fill(Kind::New, SIZE, slope, &mut tile, Line::Row(4), Line::Column(9))?;
     println!("filled: row 4 and column 9");
+
+    judge(slope, &scan, &tile);
+    let mut by_hand = tile;
+    dust(&mut by_hand, 4, 2);
+    judge(slope, &scan, &by_hand);
 
     let wrong_letter = CAPTION.find("noom").unwrap() + 3;
     let (row, column) = (wrong_letter / TEXT_COLUMNS, wrong_letter % TEXT_COLUMNS);

@@ -11,6 +11,9 @@ mod c {
         pub fn cf_read(kind: usize, p: usize, l: usize, tile: *const u8, tile_len: usize, text: *mut u8, text_len: usize) -> u64;
         pub fn cf_repair(kind: usize, p: usize, l: usize, tile: *mut u8, tile_len: usize) -> u64;
         pub fn cf_fill(kind: usize, p: usize, l: usize, tile: *mut u8, tile_len: usize, first: usize, second: usize) -> u64;
+        pub fn cf_judge(
+            p: usize, l: usize, scan: *const u8, scan_len: usize, restored: *const u8, restored_len: usize, first: usize, second: usize,
+        ) -> u64;
         pub fn cf_correct(
             kind: usize, p: usize, l: usize, tile: *mut u8, tile_len: usize, sheet: *const u8, sheet_len: usize, count_or_offset: &mut u64,
         ) -> u64;
@@ -28,7 +31,7 @@ pub enum Kind {
     Old = 1,
 }
 
-/// Why a call says no: the number, from 1 to 8 as the header has them, and in a sheet or a reel the offset of the faulty record.
+/// Why a call says no: the number, from 1 to 11 as the header has them, and in a sheet or a reel the offset of the faulty record.
 #[derive(Debug, PartialEq, Eq)]
 pub struct Refused {
     pub number: u16,
@@ -37,6 +40,10 @@ pub struct Refused {
 
 /// The refusal of an old tile for which two different good tiles would do.
 pub const DOUBTFUL: u16 = 8;
+
+/// The refusals of a restored tile: it is not good; it differs from the scan outside the named lines.
+pub const NOT_GOOD: u16 = 10;
+pub const DIFFERS_ELSEWHERE: u16 = 11;
 
 /// A row or a column of a tile.
 #[derive(Clone, Copy, Debug, PartialEq, Eq)]
@@ -119,6 +126,14 @@ pub fn repair(kind: Kind, p: usize, l: usize, tile: &mut [u8]) -> Result<Option<
 /// Fills one or two lost lines; one line is named twice.
 pub fn fill(kind: Kind, p: usize, l: usize, tile: &mut [u8], first: Line, second: Line) -> Result<(), Refused> {
     taken(unsafe { c::cf_fill(kind as usize, p, l, tile.as_mut_ptr(), tile.len(), name(first), name(second)) }, 0).map(|_| ())
+}
+
+/// Judges a new tile that somebody restored from a scan in one or two lines; one line is named twice. It is accepted exactly if `fill`
+/// makes this very tile of the scan.
+pub fn judge(p: usize, l: usize, scan: &[u8], restored: &[u8], first: Line, second: Line) -> Result<(), Refused> {
+    let answer =
+        unsafe { c::cf_judge(p, l, scan.as_ptr(), scan.len(), restored.as_ptr(), restored.len(), name(first), name(second)) };
+    taken(answer, 0).map(|_| ())
 }
 
 /// Corrects a tile, sound or damaged, by a sheet, and counts its records.

@@ -290,6 +290,20 @@ uint64_t ask_fill(size_t kind, size_t p, size_t l, uint8_t *tile, size_t tile_le
     return compare(&question);
 }
 
+/* No kind is told, so the library is asked once. */
+uint64_t ask_judge(size_t p, size_t l, const uint8_t *scan, size_t scan_len, const uint8_t *restored, size_t restored_len, size_t first,
+                   size_t second)
+{
+    struct question question;
+    put(&question, "cf_judge, p %zu, l %zu, lines %zx and %zx hex", p, l, first, second, 0);
+    struct lent *scans = for_reading(&question, "scan", scan, scan_len);
+    struct lent *tiles = for_reading(&question, "restored tile", restored, restored_len);
+    for (size_t side = 0; side < question.sides; side++)
+        question.word[side] =
+            (side == PEER ? peer_judge : cf_judge)(p, l, scans[side].bytes, scan_len, tiles[side].bytes, restored_len, first, second);
+    return compare(&question);
+}
+
 uint64_t ask_correct(size_t kind, size_t p, size_t l, uint8_t *tile, size_t tile_len, const uint8_t *sheet, size_t sheet_len,
                      uint64_t *count_or_offset)
 {

@@ -9,6 +9,8 @@ void cases_size(void);
 void cases_tile(void);
 void cases_repair(void);
 void cases_fill(void);
+void cases_judge(void);
+void cases_judge_faults(void);
 void cases_doubtful(void);
 void cases_margin(void);
 void cases_sheet(void);

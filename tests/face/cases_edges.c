@@ -99,12 +99,14 @@ static void put_faults(struct told *told, unsigned faults)
         told->p = wrong_size();
 }
 
+/* Once it is written, the tile is judged with itself as the scan. What else judge may be told has cases of its own. */
 static void ask_all(const struct told *told)
 {
     static struct sheet sheet;
     uint64_t count;
     make_sheet(&sheet, &chance, 5, 2);
     ask_write(told->kind, told->p, told->l, text, told->text_len, tile, told->tile_len);
+    ask_judge(told->p, told->l, tile, told->tile_len, tile, told->tile_len, told->first, told->second);
     ask_read(told->kind, told->p, told->l, tile, told->tile_len, text, told->text_len);
     ask_fill(told->kind, told->p, told->l, tile, told->tile_len, told->first, told->second);
     ask_correct(told->kind, told->p, told->l, tile, told->tile_len, sheet.bytes, sheet.length, &count);

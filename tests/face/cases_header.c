@@ -47,6 +47,8 @@ static void know_the_numbers(void)
                                         CF_DAMAGED,  CF_BAD_MARK,  CF_CUT_SHORT,  CF_DOUBTFUL};
     for (unsigned k = 0; k < 8; k++)
         hold(refusals[k] == k + 1, "the refusal %u has the number %u", k + 1, refusals[k]);
+    hold(CF_NOT_GOOD == 10 && CF_DIFFERS_ELSEWHERE == 11, "the refusals 10 and 11 have the numbers %u and %u", CF_NOT_GOOD,
+         CF_DIFFERS_ELSEWHERE);
     hold(CF_NEW == 0 && CF_OLD == 1, "new has the number %u, and old %u", CF_NEW, CF_OLD);
 }
 
@@ -87,17 +89,19 @@ static void know_the_version(void)
     hold(10000 * major + 100 * minor + patch == CF_VERSION, "the version's text is that of its number");
 }
 
-/* Every number has words, and each of the eight, and none at all, has words of its own. */
+/* Every number has words. Each refusal, and none at all, which is 0, has words of its own; 9, which no call says, has not. */
 static void have_words(void)
 {
-    static const unsigned others[] = {9, 10, 255, 0xFFFF, 0x10001, 0x7FFFFFFF, 0xFFFFFFFF};
+    static const unsigned known[] = {0, 1, 2, 3, 4, 5, 6, 7, 8, 10, 11};
+    static const unsigned others[] = {9, 12, 255, 266, 0xFFFF, 0x10001, 0x1000A, 0x7FFFFFFF, 0xFFFFFFFF};
     const char *unknown = cf_refusal_words(9);
-    for (unsigned k = 0; k < 9; k++) {
-        const char *words = cf_refusal_words(k);
-        hold(words != NULL && words[0] != 0, "the refusal %u has words", k);
-        hold(strcmp(words, unknown) != 0, "the refusal %u is known", k);
-        for (unsigned other = 0; other < k; other++)
-            hold(strcmp(words, cf_refusal_words(other)) != 0, "the refusals %u and %u have different words", k, other);
+    hold(strcmp(unknown, "no refusal has this number") == 0, "the refusal 9 has the words: %s", unknown);
+    for (size_t k = 0; k < sizeof known / sizeof known[0]; k++) {
+        const char *words = cf_refusal_words(known[k]);
+        hold(words != NULL && words[0] != 0, "the refusal %u has words", known[k]);
+        hold(strcmp(words, unknown) != 0, "the refusal %u is known", known[k]);
+        for (size_t other = 0; other < k; other++)
+            hold(strcmp(words, cf_refusal_words(known[other])) != 0, "the refusals %u and %u have different words", known[k], known[other]);
     }
     for (size_t k = 0; k < sizeof others / sizeof others[0]; k++)
         hold(strcmp(cf_refusal_words(others[k]), unknown) == 0, "the refusal %u is not known", others[k]);

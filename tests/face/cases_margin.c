@@ -15,11 +15,6 @@
 static struct chance chance;
 static uint8_t good[LARGEST_TILE], tile[LARGEST_TILE], text[LARGEST_TEXT], other[LARGEST_TEXT];
 
-static int is_on(size_t p, size_t line, size_t place)
-{
-    return is_row(line) ? place / (p - 1) == line : place % (p - 1) == line - 0x8000;
-}
-
 /* SPEC 3.4: whether the good tile and the other one agree outside some lines. */
 static int agree_outside(size_t p, const size_t *lines, size_t count)
 {

@@ -317,13 +317,9 @@ static void edge_at_chosen_lines(size_t kind, size_t p, size_t l)
 /* Two cells of two lines, on one diagonal of a slope (SPEC 4.1): changed alike, they leave all sums of that slope as they were. */
 static void two_on_a_diagonal(size_t kind, size_t p, size_t l, size_t slope)
 {
-    size_t row = chance_below(&chance, p - 1), column = chance_below(&chance, p - 1), other_row, other_column;
+    size_t row = chance_below(&chance, p - 1), column = chance_below(&chance, p - 1), place = row * (p - 1) + column;
     uint8_t change = chance_change(&chance);
-    do {
-        other_column = (column + 1 + chance_below(&chance, p - 2)) % (p - 1);
-        other_row = (row + slope * column + (p - slope) * other_column) % p;
-    } while (other_row == p - 1);
-    two_cells_hurt(kind, p, l, row * (p - 1) + column, other_row * (p - 1) + other_column, change, change);
+    two_cells_hurt(kind, p, l, place, other_on_diagonal(&chance, p, slope, place), change, change);
 }
 
 static void some_on_diagonals(size_t kind, size_t p, size_t l)

@@ -13,12 +13,13 @@ enum { LAST_TRIED = 300, LONGEST_TILE = (LAST_TRIED - 1) * (LAST_TRIED - 1) };
 
 static uint8_t tile[LONGEST_TILE], text[LONGEST_TILE];
 
-/* All tile calls, with lengths that are right if p is a size at all. */
+/* All tile calls, with lengths that are right if p is a size at all. Once it is written, the tile is judged with itself as the scan. */
 static void ask_tile_calls(size_t kind, size_t p, size_t l, size_t tile_len, size_t text_len)
 {
     static const uint8_t sheet[8] = {0xC3, 0x3C, 0, 0, 0, 0, 0, 1};
     uint64_t count;
     ask_write(kind, p, l, text, text_len, tile, tile_len);
+    ask_judge(p, l, tile, tile_len, tile, tile_len, row_name(1), column_name(2));
     ask_read(kind, p, l, tile, tile_len, text, text_len);
     ask_repair(kind, p, l, tile, tile_len);
     ask_fill(kind, p, l, tile, tile_len, row_name(1), column_name(2));

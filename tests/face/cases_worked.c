@@ -174,6 +174,30 @@ static void old_read(void)
     hold(said == answer(CF_KIND_DONE, 0) && memcmp(text, text_of_e, OLD_TEXT) == 0, "worked tile 17: the peer does not read it");
 }
 
+/* Tiles 18 to 24: the scan is the tile of 9, zeros with 1 in cell (1, 1). A line that is named alone is named twice. */
+static void judged(void)
+{
+    static const uint8_t scan[TILE] = {[1 * 4 + 1] = 1};
+    const struct {
+        unsigned number;
+        uint64_t answer;
+        uint8_t restored[TILE];
+        size_t first, second;
+    } tiles[] = {
+        {18, answer(CF_KIND_DONE, 0), {0, 1, 0, 1, 1, 1, 0, 0, 1, 0, 0, 0, 1, 0, 0, 0}, 0, 0x8000},
+        {19, answer(CF_KIND_REFUSED, CF_DIFFERS_ELSEWHERE), {0}, 0, 0x8000},
+        {20, answer(CF_KIND_REFUSED, CF_NOT_GOOD), {[1 * 4 + 1] = 1}, 0, 0x8000},
+        {21, answer(CF_KIND_REFUSED, CF_NOT_GOOD), {[2 * 4 + 3] = 1}, 0, 0x8000},
+        {22, answer(CF_KIND_REFUSED, CF_DIFFERS_ELSEWHERE), {0, 1, 0, 1, 1, 1, 0, 0, 1, 0, 0, 0, 1, 0, 0, 0}, 0, 0},
+        {23, answer(CF_KIND_REFUSED, CF_DIFFERS_ELSEWHERE), {0, 1, 0, 1, 1, 1, 0, 0, 1, 0, 0, 0, 1, 0, 0, 0}, 0x8000, 0x8000},
+        {24, answer(CF_KIND_REFUSED, CF_BAD_PLACE), {0, 1, 0, 1, 1, 1, 0, 0, 1, 0, 0, 0, 1, 0, 0, 0}, 0, 0x8004},
+    };
+    for (size_t k = 0; k < sizeof tiles / sizeof tiles[0]; k++) {
+        uint64_t said = ask_judge(5, 2, scan, TILE, tiles[k].restored, TILE, tiles[k].first, tiles[k].second);
+        hold(said == tiles[k].answer, "worked tile %u: the peer says otherwise than SPEC 10", tiles[k].number);
+    }
+}
+
 /* The whole reel: two tiles and one byte more. */
 static const uint8_t reel[53] = {[0] = 0xD5, [1] = 0x5D, [3] = 5, [5] = 2, [9] = 7, [26] = 0xD5, [27] = 0x5D,
                                  [29] = 5,   [31] = 2,   [35] = 8, [47] = 0x41};
@@ -255,6 +279,7 @@ void cases_worked(void)
     old_filled();
     old_repaired();
     old_read();
+    judged();
     walked();
     reel_repaired();
     house_slopes();

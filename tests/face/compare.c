@@ -18,6 +18,8 @@ int main(void)
         {"writing and reading", cases_tile},
         {"repair", cases_repair},
         {"fill", cases_fill},
+        {"judging restored tiles", cases_judge},
+        {"judging, and what it is told", cases_judge_faults},
         {"old tiles that are doubtful", cases_doubtful},
         {"the margin", cases_margin},
         {"correction sheets", cases_sheet},

@@ -190,9 +190,39 @@ size_t some_line(struct chance *chance, size_t p)
     return nth_line(p, chance_below(chance, 2 * (p - 1)));
 }
 
+size_t another_line(struct chance *chance, size_t p, size_t line)
+{
+    size_t step = 1 + chance_below(chance, p - 2);
+    return is_row(line) ? row_name((line + step) % (p - 1)) : column_name((line - column_name(0) + step) % (p - 1));
+}
+
+struct pair some_pair(struct chance *chance, size_t p, size_t pair_kind)
+{
+    size_t row = some_row(chance, p), column = some_column(chance, p);
+    const struct pair pairs[PAIR_KINDS] = {{row, another_line(chance, p, row)}, {column, another_line(chance, p, column)},
+                                           {row, column},                       {column, row},
+                                           {row, row},                          {column, column}};
+    return pairs[pair_kind];
+}
+
 size_t place_on_line(size_t p, size_t line, size_t n)
 {
     return is_row(line) ? line * (p - 1) + n : n * (p - 1) + (line - 0x8000);
+}
+
+int is_on(size_t p, size_t line, size_t place)
+{
+    return line == row_name(place / (p - 1)) || line == column_name(place % (p - 1));
+}
+
+size_t other_on_diagonal(struct chance *chance, size_t p, size_t slope, size_t place)
+{
+    size_t row = place / (p - 1), column = place % (p - 1), other_row, other_column;
+    do {
+        other_column = (column + 1 + chance_below(chance, p - 2)) % (p - 1);
+        other_row = (row + slope * column + (p - slope) * other_column) % p;
+    } while (other_row == p - 1);
+    return other_row * (p - 1) + other_column;
 }
 
 void hurt_line(struct chance *chance, size_t p, uint8_t *tile, size_t line, enum hurt hurt)

@@ -59,7 +59,7 @@ enum garbage { GARBAGE_OF_BYTES, GARBAGE_OF_BITS, GARBAGES };
 
 void make_garbage(struct chance *chance, size_t p, uint8_t *tile, enum garbage garbage);
 
-/* A line as cf_fill is told it. */
+/* A line as cf_fill and cf_judge are told it. */
 size_t row_name(size_t row);
 size_t column_name(size_t column);
 
@@ -77,8 +77,25 @@ size_t some_row(struct chance *chance, size_t p);
 size_t some_column(struct chance *chance, size_t p);
 size_t some_line(struct chance *chance, size_t p);
 
-/* Where the n-th cell of a line is, in a tile of size p. */
+/* Any other line of the same kind. */
+size_t another_line(struct chance *chance, size_t p, size_t line);
+
+/* Any pair of a kind: two rows, two columns, a row with a column and the other way about, a row that is named twice, and a column. */
+enum { PAIR_KINDS = 6 };
+
+struct pair {
+    size_t first, second;
+};
+
+struct pair some_pair(struct chance *chance, size_t p, size_t pair_kind);
+
+/* Where the n-th cell of a line is, in a tile of size p; and whether a line has the cell at a place. */
 size_t place_on_line(size_t p, size_t line, size_t n);
+int is_on(size_t p, size_t line, size_t place);
+
+/* The place of another cell, in another row and another column, on the same diagonal of a slope as the cell at this place (SPEC 4.1). Both
+ * changed alike, they leave all sums of that slope as they were. */
+size_t other_on_diagonal(struct chance *chance, size_t p, size_t slope, size_t place);
 
 /* Changes one cell of a line, every cell by the same byte, or the cells by any bytes, at least one of them. */
 enum hurt { HURT_ONE, HURT_ALIKE, HURT_ANY, HURTS };

@@ -10,8 +10,20 @@
 /* SPEC 2.1, 3.1 and 3.2. */
 enum { LARGEST_SIZE = 257, LARGEST_TILE = 256 * 256, LARGEST_TEXT = 256 * 254 };
 
-/* SPEC 9.1. ACCEPTED is the judgement that none of the eight is to be said. */
-enum refusal { ACCEPTED, BAD_SIZE, BAD_SLOPE, BAD_LENGTH, BAD_PLACE, DAMAGED, BAD_MARK, CUT_SHORT, DOUBTFUL };
+/* SPEC 9.1, where 9 is no refusal. ACCEPTED is the judgement that none of them is to be said. */
+enum refusal {
+    ACCEPTED,
+    BAD_SIZE,
+    BAD_SLOPE,
+    BAD_LENGTH,
+    BAD_PLACE,
+    DAMAGED,
+    BAD_MARK,
+    CUT_SHORT,
+    DOUBTFUL,
+    NOT_GOOD = 10,
+    DIFFERS_ELSEWHERE = 11
+};
 
 /* SPEC 11.5: the number of each kind (SPEC 2.5). Every other number counts as new. */
 enum { NEW = 0, OLD = 1 };

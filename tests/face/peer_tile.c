@@ -1,4 +1,4 @@
-/* The peer's tile calls, from SPEC 5. Each takes some cells as unknown and solves for them, as SPEC 5.5 has it. */
+/* The peer's tile calls, from SPEC 5. Each takes some cells as unknown, or none, and solves for them, as SPEC 5.6 has it. */
 
 #include "peer_tile.h"
 
@@ -24,7 +24,7 @@ static enum solutions fill_strips(size_t p, size_t l, uint8_t *tile, struct stri
     return solve(&given, strips, 2, tile);
 }
 
-/* The text is laid into its columns (SPEC 3.2), and the check columns are filled (SPEC 5.5). There is one such tile (SPEC 4.5). */
+/* The text is laid into its columns (SPEC 3.2), and the check columns are filled (SPEC 5.6). There is one such tile (SPEC 4.5). */
 void make_good(size_t p, size_t l, const uint8_t *text, uint8_t *tile)
 {
     struct strip first_checks = {1, p - 3}, second_checks = {1, p - 2};
@@ -152,4 +152,46 @@ uint64_t peer_fill(size_t kind, size_t p, size_t l, uint8_t *tile, size_t tile_l
     if (named(first).number > p - 2 || named(second).number > p - 2)
         return word_refused(BAD_PLACE);
     return word_solved(fill_strips(p, l, tile, named(first), named(second)));
+}
+
+/* SPEC 9.2, of the lengths of two tiles of the new kind, the only one that is judged (SPEC 5.5): 1, 2 or 3. */
+static enum refusal judge_two_tiles(size_t p, size_t l, size_t scan_len, size_t restored_len)
+{
+    enum refusal refusal = judge_tile(NEW, p, l, scan_len);
+    if (refusal == ACCEPTED && restored_len != tile_length(p))
+        return BAD_LENGTH;
+    return refusal;
+}
+
+/* SPEC 3.4: whether the cell at a place (SPEC 3.1) lies on a strip. */
+static int lies_on(size_t p, size_t place, struct strip strip)
+{
+    return (strip.is_column ? place % (p - 1) : place / (p - 1)) == strip.number;
+}
+
+/* SPEC 3.4: whether every cell that lies on neither strip holds the same byte in both tiles. */
+static int agree_outside(size_t p, const uint8_t *one, const uint8_t *other, struct strip first, struct strip second)
+{
+    for (size_t place = 0; place < tile_length(p); place++)
+        if (one[place] != other[place] && !lies_on(p, place, first) && !lies_on(p, place, second))
+            return 0;
+    return 1;
+}
+
+/* SPEC 5.5, in the order of SPEC 9.2: 4 before 10, and 10 before 11. */
+uint64_t peer_judge(size_t p, size_t l, const uint8_t *scan, size_t scan_len, const uint8_t *restored, size_t restored_len, size_t first,
+                    size_t second)
+{
+    enum refusal refusal = judge_two_tiles(p, l, scan_len, restored_len);
+    if (refusal != ACCEPTED)
+        return word_refused(refusal);
+    if (named(first).number > p - 2 || named(second).number > p - 2)
+        return word_refused(BAD_PLACE);
+    struct given_tile given;
+    give_tile(&given, p, l, restored);
+    if (!is_good(&given))
+        return word_refused(NOT_GOOD);
+    if (!agree_outside(p, scan, restored, named(first), named(second)))
+        return word_refused(DIFFERS_ELSEWHERE);
+    return word_done();
 }

@@ -1,6 +1,7 @@
 -- WHAT A READER MUST BELIEVE: what a call that answers true or false promises (SPEC 2.4). Assumes nothing.
 use mathlib.Core.Path.{_≡_, refl, subst}
 use mathlib.Core.Bool.{Bool, true, false}
+use mathlib.Core.Logic.{_⊎_, inr, ⊎-elim}
 use Prim.Native.Nat.{ℕ}
 use lib.Dec.{eqb}
 use borrow.Author.Tests.{eqb-true, eqb-false}
@@ -38,3 +39,8 @@ says-equal m n {A} to back = go (eqb m n) refl
 pub says-both : (A B : Type 0) (r : Bool) → A → Says r B → Says r (A × B)
 says-both A B true a b = (a, b)
 says-both A B false a d = λ h. d (h .1)
+
+-- and where A does not hold, what says whether B holds says whether one of them does
+pub says-other : (A B : Type 0) (r : Bool) → (A → ⊥) → Says r B → Says r (A ⊎ B)
+says-other A B true d b = inr b
+says-other A B false d e = ⊎-elim d e

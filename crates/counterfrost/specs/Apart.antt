@@ -6,9 +6,9 @@ use Prim.Native.Nat.{ℕ, _/_, _%_}
 use native.Mathlib.Omega.{arith}
 use Rattle.word.specs.Word.{Answer, answer, word, sizeAnswer, tileAnswer}
 use Rattle.counterfrost.specs.Numbers.{sheetAnswer, reelAnswer}
-use Rattle.counterfrost.specs.Calls.{Worded, HouseWorded, TakesWorded, WriteWorded, ReadWorded, RepairWorded, FillWorded, CorrectWorded, NextWorded}
+use Rattle.counterfrost.specs.Calls.{Worded, HouseWorded, TakesWorded, WriteWorded, ReadWorded, RepairWorded, FillWorded, JudgeWorded, CorrectWorded, NextWorded}
 use Rattle.word.specs.Fits.{Fits}
-use Rattle.counterfrost.specs.Fits.{house-fits, takes-fits, write-fits, read-fits, repair-fits, fill-fits, correct-fits, next-fits}
+use Rattle.counterfrost.specs.Fits.{house-fits, takes-fits, write-fits, read-fits, repair-fits, fill-fits, judge-fits, correct-fits, next-fits}
 
 -- `cf_kind`, `cf_first` and `cf_second`: the word shifted by 32 bits, its next 16 bits, its last 16
 abbrev pub kindOf : ℕ → ℕ
@@ -50,6 +50,9 @@ repair-tells kind t = tells (λ said h. repair-fits h) t
 
 pub fill-tells : (kind first second : ℕ) {p l w : ℕ} {x y : List ℕ} (t : FillWorded kind p l x first second w y) → Tells w (tileAnswer (t .said))
 fill-tells kind first second t = tells (λ said h. fill-fits h) t
+
+pub judge-tells : (first second : ℕ) {p l w : ℕ} {x y : List ℕ} (t : JudgeWorded p l x y first second w) → Tells w (tileAnswer (t .said))
+judge-tells first second t = tells (λ said h. judge-fits h) t
 
 pub correct-tells : (kind : ℕ) {p l w n : ℕ} {x records y : List ℕ} (t : CorrectWorded kind p l x records w y n) → Tells w (sheetAnswer (t .said))
 correct-tells kind t = tells (λ said h. correct-fits (h .0)) t

@@ -4,7 +4,7 @@ use mathlib.Core.Path.{_≡_}
 use mathlib.Core.List.{List}
 use Prim.Native.Nat.{ℕ}
 use Rattle.size.specs.Answer.{HouseTold, Judged}
-use Rattle.promise.specs.Calls.{WriteTold, ReadTold, RepairTold, FillTold}
+use Rattle.promise.specs.Calls.{WriteTold, ReadTold, RepairTold, FillTold, JudgeTold}
 use Rattle.sheet.specs.Calls.{CorrectTold}
 use Rattle.reel.specs.Calls.{NextTold}
 use Rattle.word.specs.Word.{Answer, word, sizeAnswer, tileAnswer, lineOf, tileKind}
@@ -36,6 +36,10 @@ RepairWorded kind p l tile w x = Worded tileAnswer (λ s. RepairTold (tileKind k
 
 abbrev pub FillWorded : ℕ → ℕ → ℕ → List ℕ → ℕ → ℕ → ℕ → List ℕ → Type 0
 FillWorded kind p l tile first second w x = Worded tileAnswer (λ s. FillTold (tileKind kind) p l tile (lineOf first) (lineOf second) s x) w
+
+-- SPEC 11.1, 11.3 and 5.5: a judgement, which is told no kind and leaves nothing
+abbrev pub JudgeWorded : ℕ → ℕ → List ℕ → List ℕ → ℕ → ℕ → ℕ → Type 0
+JudgeWorded p l scan restored first second = Worded tileAnswer (JudgeTold p l scan restored (lineOf first) (lineOf second))
 
 -- SPEC 11.1, 11.2, 6.3 and 6.4: a correction that leaves the tile x, and the number n
 abbrev pub CorrectWorded : ℕ → ℕ → ℕ → List ℕ → List ℕ → ℕ → List ℕ → ℕ → Type 0

@@ -6,7 +6,7 @@ use Rattle.code.specs.declared.Kind.{Kind}
 use Rattle.code.specs.declared.Line.{Line}
 use Rattle.size.specs.Answer as size
 use Rattle.promise.specs.Answer as tile
-use Rattle.promise.specs.Calls.{Admitted, judged, no-length, WriteTold, ReadTold, Looked, Named, by-cell, by-column, by-row, RepairTold, Done, FillTold}
+use Rattle.promise.specs.Calls.{Admitted, judged, no-length, WriteTold, ReadTold, Looked, Named, by-cell, by-column, by-row, RepairTold, Done, FillTold, JudgeTold}
 use Rattle.promise.specs.Admit.{admitted-well}
 use Rattle.promise.specs.Name.{named-in}
 use Rattle.sheet.specs.Answer as sheet
@@ -65,6 +65,13 @@ pub fill-fits : {k : Kind} {p l : ℕ} {x y : List ℕ} {a b : Line} {said : til
 fill-fits (FillTold.refuses h) = admitted-fits h
 fill-fits (FillTold.no-line h f) = (omega arith, omega arith)
 fill-fits (FillTold.has-lines h a b q) = looked-fits done-fits q
+
+pub judge-fits : {p l : ℕ} {x y : List ℕ} {a b : Line} {said : tile.Said} → JudgeTold p l x y a b said → Fits (tileAnswer said)
+judge-fits (JudgeTold.refuses h) = admitted-fits h
+judge-fits (JudgeTold.no-line h f) = (omega arith, omega arith)
+judge-fits (JudgeTold.not-good h a b f) = (omega arith, omega arith)
+judge-fits (JudgeTold.elsewhere h a b g f) = (omega arith, omega arith)
+judge-fits (JudgeTold.accepts h a b g e) = (omega arith, omega arith)
 
 sheet-fits : {p n at : ℕ} {records : List ℕ} → sheet-calls.Judged p records (sheet.refused n at) → Fits (refusal n)
 sheet-fits (sheet-calls.cut f) = (omega arith, omega arith)

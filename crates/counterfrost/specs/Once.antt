@@ -3,12 +3,12 @@ use mathlib.Core.Path.{_≡_, sym, ap, _∙_}
 use mathlib.Core.List.{List}
 use Prim.Native.Nat.{ℕ}
 use Rattle.size.specs.Once.{house-told-once, judged-told-once}
-use Rattle.promise.specs.Once.{write-told-once, read-told-once, repair-told-once, fill-told-once}
+use Rattle.promise.specs.Once.{write-told-once, read-told-once, repair-told-once, fill-told-once, judge-told-once}
 use Rattle.sheet.specs.Once.{correct-told-once}
 use Rattle.reel.specs.Once.{next-told-once}
 use Rattle.word.specs.Word.{Answer, word, lineOf, tileKind}
 use Rattle.counterfrost.specs.Numbers.{countOrOffset, tileKindNumber, tileNumber, tileSize, tileSlope, offset}
-use Rattle.counterfrost.specs.Calls.{Worded, HouseWorded, TakesWorded, WriteWorded, ReadWorded, RepairWorded, FillWorded, CorrectWorded, NextWorded}
+use Rattle.counterfrost.specs.Calls.{Worded, HouseWorded, TakesWorded, WriteWorded, ReadWorded, RepairWorded, FillWorded, JudgeWorded, CorrectWorded, NextWorded}
 
 -- where one thing is said, it has one word
 one-word : {Said : Type 0} {answerOf : Said → Answer} {Right Right′ : Said → Type 0} {v w : ℕ} (t : Worded answerOf Right v)
@@ -40,6 +40,11 @@ pub fill-word-once : (kind p l : ℕ) (tile : List ℕ) (first second v w : ℕ)
     → FillWorded kind p l tile first second w y → (v ≡ w) × (x ≡ y)
 fill-word-once kind p l tile first second v w x y t u =
     let e = fill-told-once (tileKind kind) p l tile (lineOf first) (lineOf second) (t .said) (u .said) x y (t .right) (u .right) in (one-word t u (e .0), e .1)
+
+pub judge-word-once : (p l : ℕ) (scan restored : List ℕ) (first second v w : ℕ) → JudgeWorded p l scan restored first second v
+    → JudgeWorded p l scan restored first second w → v ≡ w
+judge-word-once p l scan restored first second v w t u =
+    one-word t u (judge-told-once p l scan restored (lineOf first) (lineOf second) (t .said) (u .said) (t .right) (u .right))
 
 -- a correction leaves one number too
 pub correct-word-once : (kind p l : ℕ) (tile sheet : List ℕ) (v w : ℕ) (x y : List ℕ) (m n : ℕ) → CorrectWorded kind p l tile sheet v x m

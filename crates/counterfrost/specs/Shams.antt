@@ -20,6 +20,7 @@ use Rattle.promise.specs.Calls as tile-calls
 use Rattle.promise.specs.Calls.{WriteTold, Explains, RepairTold}
 use Rattle.promise.specs.Explain.{explains-fills, explains-on}
 use Rattle.promise.specs.Worked as tile-case
+use Rattle.promise.specs.WorkedJudged.{judgement}
 use Rattle.promise.specs.Worked.{zeros, text-1, tile-1, tile-4, tile-6, tile-8, repaired-8, tile-9, filled-9, copied-1}
 use Rattle.sheet.specs.Answer as sheet
 use Rattle.sheet.specs.Calls as sheet-calls
@@ -30,8 +31,8 @@ use Rattle.reel.specs.Worked as reel-case
 use Rattle.reel.specs.Worked.{whole-case, old-case}
 use Rattle.word.specs.Version.{version}
 use Rattle.word.specs.Word.{answer, word, done, refusal, lineOf, tileKind}
-use Rattle.counterfrost.specs.Calls.{HouseWorded, TakesWorded, WriteWorded, ReadWorded, RepairWorded, FillWorded, CorrectWorded, NextWorded}
-use Rattle.counterfrost.specs.Once.{house-word-once, takes-word-once, write-word-once, read-word-once, repair-word-once, fill-word-once, correct-word-once, next-word-once}
+use Rattle.counterfrost.specs.Calls.{HouseWorded, TakesWorded, WriteWorded, ReadWorded, RepairWorded, FillWorded, JudgeWorded, CorrectWorded, NextWorded}
+use Rattle.counterfrost.specs.Once.{house-word-once, takes-word-once, write-word-once, read-word-once, repair-word-once, fill-word-once, judge-word-once, correct-word-once, next-word-once}
 
 -- a good tile was written, and a tile that is repaired by a row is explained by it
 written-good : {k : Kind} {p l : ℕ} {text x y : List ℕ} → WriteTold k p l text x tile.done y → Good p l y
@@ -81,7 +82,7 @@ takes-slope-first kind t = omega (arith, takes-word-once kind 4 0 (word (refusal
 -- ---- the version
 
 -- a library that says the version before this one, and one that says none
-pub version-stale : _≡_ {A = ℕ} 300 version → ⊥
+pub version-stale : _≡_ {A = ℕ} 400 version → ⊥
 version-stale e = omega (arith, e)
 
 pub version-missing : _≡_ {A = ℕ} 0 version → ⊥
@@ -197,6 +198,30 @@ far-line kind = record { said = tile.refused 4; right = tile-calls.no-line (admi
 -- one that looks at the last 16 bits of a line's name alone
 pub last-bits : (kind : ℕ) (x : List ℕ) → FillWorded kind 5 2 zeros 0x10000 0x10000 (word done) x → ⊥
 last-bits kind x t = omega (arith, fill-word-once kind 5 2 zeros 0x10000 0x10000 (word (refusal 4)) (word done) zeros x (far-line kind) t .0)
+
+-- ---- judge
+
+-- tile 9, restored in row 0 and column 0
+accepted-18 : JudgeWorded 5 2 tile-9 filled-9 0 0x8000 (word done)
+unfolding lineOf
+accepted-18 = record { said = tile.done; right = judgement 18 .0; is = refl }
+
+-- a judge that takes the scan for the restored tile: it is not good
+pub judge-exchanged : JudgeWorded 5 2 tile-9 filled-9 0 0x8000 (word (refusal 10)) → ⊥
+judge-exchanged t = omega (arith, judge-word-once 5 2 tile-9 filled-9 0 0x8000 (word done) (word (refusal 10)) accepted-18 t)
+
+-- one that passes over the second line: what was restored there differs
+pub judge-first-line : JudgeWorded 5 2 tile-9 filled-9 0 0x8000 (word (refusal 11)) → ⊥
+judge-first-line t = omega (arith, judge-word-once 5 2 tile-9 filled-9 0 0x8000 (word done) (word (refusal 11)) accepted-18 t)
+
+-- zeros, which are good, and differ from tile 9 elsewhere
+elsewhere-19 : JudgeWorded 5 2 tile-9 zeros 0 0x8000 (word (refusal 11))
+unfolding lineOf
+elsewhere-19 = record { said = tile.refused 11; right = judgement 19 .0; is = refl }
+
+-- one that tells this with the kind 0
+pub judge-refusal-done : JudgeWorded 5 2 tile-9 zeros 0 0x8000 (word (answer 0 11 0)) → ⊥
+judge-refusal-done t = omega (arith, judge-word-once 5 2 tile-9 zeros 0 0x8000 (word (refusal 11)) (word (answer 0 11 0)) elsewhere-19 t)
 
 -- ---- correct
 

@@ -10,7 +10,7 @@ ghost use Rattle.promise.specs.Answer.{repairSaid};
 ghost use Rattle.word.specs.Word as spec;
 ghost use Rattle.word.specs.Fits.{Fits};
 ghost use Rattle.word.specs.Version.{version};
-ghost use Rattle.counterfrost.specs.Calls.{HouseWorded, TakesWorded, WriteWorded, ReadWorded, RepairWorded, FillWorded, CorrectWorded, NextWorded};
+ghost use Rattle.counterfrost.specs.Calls.{HouseWorded, TakesWorded, WriteWorded, ReadWorded, RepairWorded, FillWorded, JudgeWorded, CorrectWorded, NextWorded};
 
 // The house slope of the size p.
 #[no_mangle]
@@ -67,6 +67,23 @@ pub extern "C" fn cf_fill(
     let first = word::line(first);
     let second = word::line(second);
     word::of_outcome(tile::fill(word::kind(kind), p, l, tile, first, second))
+}
+
+// Judges a tile that somebody restored from a scan, in one or two lines.
+#[no_mangle]
+pub extern "C" fn cf_judge(
+    p: usize,
+    l: usize,
+    scan: &[u8],
+    restored: &[u8],
+    first: usize,
+    second: usize,
+) -> u64
+    ensures { λ r. ⌜ JudgeWorded p l (now (scan .entry)) (now (restored .entry)) first second r ⌝ }
+{
+    let first = word::line(first);
+    let second = word::line(second);
+    word::of_outcome(tile::judge(p, l, scan, restored, first, second))
 }
 
 // Corrects a tile by a sheet.

@@ -5,33 +5,12 @@ use classes::Fillings;
 use code::Kind;
 use code::Line;
 use promise::Outcome;
+use promise::has_both;
 use promise::judge_tile;
 use size::Judgement;
 use size::Refusal;
-use walk::index::number;
-ghost use Rattle.code.specs.Says.{Says};
 ghost use Rattle.promise.specs.Answer.{outcomeSaid};
-ghost use Rattle.promise.specs.Calls.{Has, FillTold};
-
-// Does a tile of size p have the line?
-fn has(p: usize, line: Line) -> bool
-    ensures { λ r. ⌜ Says r (Has p line) ⌝ }
-{
-    if p < 2 {
-        return false;
-    }
-    if p - 2 < number(line) {
-        return false;
-    }
-    true
-}
-
-// Does it have both?
-fn has_both(p: usize, first: Line, second: Line) -> bool
-    ensures { λ r. ⌜ Says r (Has p first × Has p second) ⌝ }
-{
-    if has(p, first) { has(p, second) } else { false }
-}
+ghost use Rattle.promise.specs.Calls.{FillTold};
 
 // Fills one or two flagged lines, whatever bytes they hold. One line is named twice.
 pub fn fill(kind: Kind, p: usize, l: usize, tile: &mut [u8], first: Line, second: Line) -> Outcome

@@ -4,10 +4,11 @@ use mathlib.Core.Path.{_≡_}
 use mathlib.Core.List.{List}
 use Prim.Native.Nat.{ℕ, _+_, _≤_}
 use lib.ListN.{length}
-use Rattle.code.specs.Tile.{tileLength, textLength, Good, textOf, Writes, On, EqualOutside, Differ, Fills}
+use Rattle.code.specs.Tile.{tileLength, textLength, Good, textOf, Writes, On, EqualOutside, EqualOutsideBoth, Differ, Fills}
 use Rattle.code.specs.Count.{None, Only, Several}
 use Rattle.code.specs.OneLine.{number}
 use Rattle.code.specs.declared.Kind.{Kind}
+use Rattle.code.specs.declared.Kind.the-variants.{New}
 use Rattle.code.specs.declared.Line.{Line}
 use Rattle.code.specs.declared.Line.the-variants.{Row, Column}
 use Rattle.size.specs.Answer as size
@@ -20,12 +21,15 @@ pub data Admitted (k : Kind) (p l : ℕ) (Lengths : Type 0) : size.Said → Type
   no-length : size.Judged k p l size.well → (Lengths → ⊥) → Admitted k p l Lengths (size.refused 3)
   admitted : size.Judged k p l size.well → Lengths → Admitted k p l Lengths size.well
 
--- SPEC 5, with 3.1 and 3.2: the length that repair and fill ask for, and those that write and read do
+-- SPEC 5, with 3.1 and 3.2: the length that repair and fill ask for, those that write and read do, and those that judge does
 abbrev pub TileLength : ℕ → List ℕ → Type 0
 TileLength p tile = length tile ≡ tileLength p
 
 abbrev pub BothLengths : ℕ → List ℕ → List ℕ → Type 0
 BothLengths p tile text = TileLength p tile × (length text ≡ textLength p)
+
+abbrev pub TwoLengths : ℕ → List ℕ → List ℕ → Type 0
+TwoLengths p scan restored = TileLength p scan × TileLength p restored
 
 -- SPEC 5.1: WRITE. Whatever the tile held, it becomes the good one that has the text
 pub data WriteTold (k : Kind) (p l : ℕ) (text tile : List ℕ) : Said → List ℕ → Type 0 where
@@ -100,3 +104,16 @@ pub data FillTold (k : Kind) (p l : ℕ) (tile : List ℕ) (a b : Line) : Said �
   no-line : Admitted k p l (TileLength p tile) size.well → (Has p a × Has p b → ⊥) → FillTold k p l tile a b (refused 4) tile
   has-lines : {said : Said} {new : List ℕ} → Admitted k p l (TileLength p tile) size.well → Has p a → Has p b
       → Looked (Fills p l a b tile) Done tile said new → FillTold k p l tile a b said new
+
+-- SPEC 5.5: JUDGE, of a tile that was restored from a scan in the lines a and b. It is told no kind: the tiles are new ones. Refused 4 where
+-- they do not have a named line, 10 where the restored tile is not good, 11 where it differs from the scan elsewhere; otherwise it is
+-- accepted, which is told as done. Nothing is written
+pub data JudgeTold (p l : ℕ) (scan restored : List ℕ) (a b : Line) : Said → Type 0 where
+  refuses : {n : ℕ} → Admitted New p l (TwoLengths p scan restored) (size.refused n) → JudgeTold p l scan restored a b (refused n)
+  no-line : Admitted New p l (TwoLengths p scan restored) size.well → (Has p a × Has p b → ⊥) → JudgeTold p l scan restored a b (refused 4)
+  not-good : Admitted New p l (TwoLengths p scan restored) size.well → Has p a → Has p b → (Good p l restored → ⊥)
+      → JudgeTold p l scan restored a b (refused 10)
+  elsewhere : Admitted New p l (TwoLengths p scan restored) size.well → Has p a → Has p b → Good p l restored
+      → (EqualOutsideBoth p a b scan restored → ⊥) → JudgeTold p l scan restored a b (refused 11)
+  accepts : Admitted New p l (TwoLengths p scan restored) size.well → Has p a → Has p b → Good p l restored
+      → EqualOutsideBoth p a b scan restored → JudgeTold p l scan restored a b done

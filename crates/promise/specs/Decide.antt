@@ -162,6 +162,11 @@ abbrev on : (a : Line) (i j : ℕ) → Test (On a i j)
 on (Row r) i j = equal i r
 on (Column c) i j = equal j c
 
+-- it is not
+abbrev pub off : (a : Line) (i j : ℕ) → Test (On a i j → ⊥)
+off (Row r) i j = refuted (eqb i r) (equal-passes i r)
+off (Column c) i j = refuted (eqb j c) (equal-passes j c)
+
 -- two tiles are equal outside two lines
 unfoldable pub outside : (p : ℕ) (a b : Line) (x y : List ℕ) → Test (EqualOutsideBoth p a b x y)
 outside p a b x y =

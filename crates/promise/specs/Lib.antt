@@ -10,8 +10,10 @@ pub mod Promise
 pub mod Bought
 pub mod Carry
 pub mod Kinds
+pub mod Judged
 pub mod Earlier
 pub mod Decide
 pub mod Worked
 pub mod WorkedOld
+pub mod WorkedJudged
 pub mod Shams

@@ -5,10 +5,11 @@ use Prim.Native.Nat.{ℕ}
 use Rattle.residue.specs.Size.{Size}
 use Rattle.code.specs.Slope.{Slope}
 use Rattle.code.specs.Kind.{Takes, taken-slope}
-use Rattle.code.specs.Tile.{tileLength, Good, textOf, Writes, Fills}
+use Rattle.code.specs.Tile.{tileLength, Good, textOf, Writes, EqualOutsideBoth, Fills}
 use Rattle.code.specs.Count.{none-several, only-several, only-once}
 use Rattle.code.specs.Writing.{written-once}
 use Rattle.code.specs.declared.Kind.{Kind}
+use Rattle.code.specs.declared.Kind.the-variants.{New}
 use Rattle.code.specs.declared.Line.{Line}
 use Rattle.size.specs.Answer as size
 use Rattle.size.specs.Answer.{judgementSaid}
@@ -16,7 +17,7 @@ use Rattle.size.specs.Refusal.{numberOf}
 use Rattle.size.specs.Once.{refusalOf, back, number-once, judgement-said-once}
 use Rattle.size.specs.declared.Judgement.{Judgement}
 use Rattle.promise.specs.Answer.{Said, done, clean, cell, column, row, refused, outcomeSaid, repairSaid}
-use Rattle.promise.specs.Calls.{Admitted, TileLength, BothLengths, WriteTold, ReadTold, Looked, ByLine, Named, RepairTold, Has, Done, FillTold}
+use Rattle.promise.specs.Calls.{Admitted, TileLength, BothLengths, TwoLengths, WriteTold, ReadTold, Looked, ByLine, Named, RepairTold, Has, Done, FillTold, JudgeTold}
 use Rattle.promise.specs.Admit.{admitted-well, admitted-no, admitted-once}
 use Rattle.promise.specs.Name.{named-once}
 use Rattle.promise.specs.declared.Outcome.{Outcome}
@@ -24,7 +25,7 @@ use Rattle.promise.specs.declared.Outcome.the-variants as outcome
 use Rattle.promise.specs.declared.Repaired.{Repaired}
 use Rattle.promise.specs.declared.Repaired.the-variants as repair
 
--- ---- what the four calls share
+-- ---- what the calls share
 
 -- R allows one outcome at most
 abbrev pub Single : {Answer : Type 0} → (Answer → List ℕ → Type 0) → Type 0
@@ -163,9 +164,34 @@ module _ (k : Kind) (p l : ℕ) (tile : List ℕ) (a b : Line) where
   fill-told-once c d x y t u =
       call-once (fill-call t) (fill-call u) (λ S. else-single (λ h. looked-single (λ z s t e f. e ∙ sym f)) (just-single (refused 4) tile))
 
+-- judge: 4 where the tiles lack a line, 10 where the restored one is not good, 11 where it differs elsewhere, and else done. It is lent nothing
+-- to write, so that the restored tile, as it was, stands for what is left
+module _ (p l : ℕ) (scan restored : List ℕ) (a b : Line) where
+  -- its own outcomes
+  abbrev JudgeOwn : Said → List ℕ → Type 0
+  JudgeOwn =
+      Else (Has p a × Has p b)
+      (Else (Good p l restored) (Else (EqualOutsideBoth p a b scan restored) (Just done restored) (Just (refused 11) restored)) (Just (refused 10) restored))
+      (Just (refused 4) restored)
+
+  -- a judgement, as such a call
+  judge-call : {c : Said} → JudgeTold p l scan restored a b c → Call New p l (TwoLengths p scan restored) restored JudgeOwn c restored
+  judge-call (JudgeTold.refuses h) = refuses h
+  judge-call (JudgeTold.no-line h f) = goes-on h (fails f (refl, refl))
+  judge-call (JudgeTold.not-good h ha hb f) = goes-on h (holds (ha, hb) (fails f (refl, refl)))
+  judge-call (JudgeTold.elsewhere h ha hb g f) = goes-on h (holds (ha, hb) (holds g (fails f (refl, refl))))
+  judge-call (JudgeTold.accepts h ha hb g e) = goes-on h (holds (ha, hb) (holds g (holds e (refl, refl))))
+
+  -- so two answers of a judge are the same
+  pub judge-told-once : (c d : Said) → JudgeTold p l scan restored a b c → JudgeTold p l scan restored a b d → c ≡ d
+  judge-told-once c d t u =
+      let said : (s : Said) → Single (Just s restored) = λ s. just-single s restored in
+      call-once (judge-call t) (judge-call u) (λ S.
+      else-single (λ h. else-single (λ g. else-single (λ e. said done) (said (refused 11))) (said (refused 10))) (said (refused 4))) .0
+
 -- ---- the same of the enums that the calls answer
 
--- one answer of write, read or fill says it ..
+-- one answer of write, read, fill or judge says it ..
 outcome-said-once : (a b : Outcome) → outcomeSaid a ≡ outcomeSaid b → a ≡ b
 outcome-said-once outcome.Done outcome.Done e = refl
 outcome-said-once outcome.Done (outcome.Refused s) e = cc
@@ -220,3 +246,8 @@ repair-once k p l tile a b x y t u =
 pub fill-once : (k : Kind) (p l : ℕ) (tile : List ℕ) (a b : Line) (c d : Outcome) (x y : List ℕ)
     → FillTold k p l tile a b (outcomeSaid c) x → FillTold k p l tile a b (outcomeSaid d) y → (c ≡ d) × (x ≡ y)
 fill-once k p l tile a b = outcome-single (FillTold k p l tile a b) (fill-told-once k p l tile a b)
+
+-- a restored tile has one right judgement
+pub judge-once : (p l : ℕ) (scan restored : List ℕ) (a b : Line) (c d : Outcome)
+    → JudgeTold p l scan restored a b (outcomeSaid c) → JudgeTold p l scan restored a b (outcomeSaid d) → c ≡ d
+judge-once p l scan restored a b c d t u = outcome-said-once c d (judge-told-once p l scan restored a b (outcomeSaid c) (outcomeSaid d) t u)

@@ -14,13 +14,14 @@ use Rattle.code.specs.declared.Line.the-variants.{Row, Column}
 use Rattle.size.specs.Answer as size
 use Rattle.size.specs.Shams.{size-5, no-at-7-2}
 use Rattle.promise.specs.Answer.{Said, done, clean, cell, column, refused}
-use Rattle.promise.specs.Calls.{Admitted, judged, WriteTold, ReadTold, Looked, OneByte, MoreBytes, by-cell, by-column, by-row, RepairTold, FillTold}
+use Rattle.promise.specs.Calls.{Admitted, judged, WriteTold, ReadTold, Looked, OneByte, MoreBytes, by-cell, by-column, by-row, RepairTold, FillTold, JudgeTold}
 use Rattle.promise.specs.Admit.{admitted-well, admitted-no}
 use Rattle.promise.specs.Name.{lineSaid, one-or-more}
 use Rattle.promise.specs.Once.{repair-told-once}
 use Rattle.promise.specs.Promise.{read-after-write, write-refused}
-use Rattle.promise.specs.Worked.{Exactly, claimed, other-claimed, taken-5-2, zeros, text-1, tile-1, text-2, tile-2, tile-4, tile-9, tile-10, copied-1, hurt-2}
+use Rattle.promise.specs.Worked.{Exactly, claimed, other-claimed, taken-5-2, zeros, text-1, tile-1, text-2, tile-2, tile-4, tile-9, filled-9, tile-10, copied-1, hurt-2}
 use Rattle.promise.specs.WorkedOld as old
+use Rattle.promise.specs.WorkedJudged.{Judges, judgement}
 
 -- where a call allows one outcome, it does not allow another answer, nor other bytes
 module _ {Answer : Type 0} (R : Answer → List ℕ → Type 0) {s : Answer} {x : List ℕ} (told : Exactly R s x) (t : Answer) (y : List ℕ) where
@@ -107,6 +108,36 @@ old-refused page new e = wrong-answer (ReadTold Old 7 2 old.E page) (old.worked-
 -- one that takes an old slope for a new tile
 pub new-taken : (page new : List ℕ) → ReadTold New 7 2 old.E page done new → ⊥
 new-taken page new (ReadTold.reads h g) = no-at-7-2 (admitted-well h .1)
+
+-- ---- judge
+
+-- where judge says one thing, it does not say another
+misjudged : {x : List ℕ} {a b : Line} {s : Said} → Judges x a b s → (t : Said) → (t ≡ s → _≡_ {A = ℕ} 0 1) → JudgeTold 5 2 tile-9 x a b t → ⊥
+misjudged told t f r = let z = f (told .1 t r) in omega arith
+
+-- a judge that accepts every good tile
+pub accepts-good : JudgeTold 5 2 tile-9 zeros (Row 0) (Column 0) done → ⊥
+accepts-good = misjudged (judgement 19) done (λ e. cc)
+
+-- one that accepts a tile that equals the scan elsewhere, good or not
+pub accepts-spoiled : JudgeTold 5 2 tile-9 tile-9 (Row 0) (Column 0) done → ⊥
+accepts-spoiled = misjudged (judgement 20) done (λ e. cc)
+
+-- one that names 11 before 10
+pub elsewhere-first : JudgeTold 5 2 tile-9 tile-4 (Row 0) (Column 0) (refused 11) → ⊥
+elsewhere-first = misjudged (judgement 21) (refused 11) (λ e. cc)
+
+-- one that looks at one of the two lines alone, and so refuses what differs on the other
+pub one-line-alone : JudgeTold 5 2 tile-9 filled-9 (Row 0) (Column 0) (refused 11) → ⊥
+one-line-alone = misjudged (judgement 18) (refused 11) (λ e. cc)
+
+-- one that passes over the lines, and so accepts what differs on another one
+pub any-line : JudgeTold 5 2 tile-9 filled-9 (Row 0) (Row 0) done → ⊥
+any-line = misjudged (judgement 22) done (λ e. cc)
+
+-- one that takes old slopes: whatever it says there but 2, and whatever the tiles and the lines
+pub judges-old : {scan restored : List ℕ} {a b : Line} → JudgeTold 7 2 scan restored a b done → ⊥
+judges-old (JudgeTold.accepts h ha hb g same) = no-at-7-2 (admitted-well h .1)
 
 -- ---- write and read
 

@@ -1,14 +1,17 @@
-// What the tile calls promise, in specs/; what they answer; and the judgement that comes first in each. The calls themselves have rooms of
-// their own, and users find all of them in the crate `tile`.
+// What the tile calls promise, in specs/; what they answer; and what is judged first in each. The calls themselves have rooms of their own,
+// and users find all of them in the crate `tile`.
 use code::Kind;
+use code::Line;
 use size::Judgement;
 use size::Refusal;
+use walk::index::number;
 ghost use mathlib.Core.Path.{_≡_};
+ghost use Rattle.code.specs.Says.{Says};
 ghost use Rattle.code.specs.Tile.{tileLength, textLength};
 ghost use Rattle.size.specs.Answer.{judgementSaid};
-ghost use Rattle.promise.specs.Calls.{Admitted};
+ghost use Rattle.promise.specs.Calls.{Admitted, Has};
 
-// What write, read and fill answer.
+// What write, read, fill and judge answer. Of judge, Done is that it accepts.
 pub enum Outcome {
     Done,
     Refused(Refusal),
@@ -53,4 +56,24 @@ pub fn judge_text(kind: Kind, p: usize, l: usize, cells: usize, letters: usize) 
             }
         }
     }
+}
+
+// Does a tile of size p have the line?
+fn has(p: usize, line: Line) -> bool
+    ensures { λ r. ⌜ Says r (Has p line) ⌝ }
+{
+    if p < 2 {
+        return false;
+    }
+    if p - 2 < number(line) {
+        return false;
+    }
+    true
+}
+
+// Does it have both?
+pub fn has_both(p: usize, first: Line, second: Line) -> bool
+    ensures { λ r. ⌜ Says r (Has p first × Has p second) ⌝ }
+{
+    if has(p, first) { has(p, second) } else { false }
 }

@@ -11,7 +11,7 @@ use Rattle.code.specs.declared.Kind.{Kind}
 use Rattle.code.specs.declared.Kind.the-variants.{New, Old}
 use Rattle.size.specs.Answer.{slope, well, refused, HouseTold, given, Judged, no-slope}
 use Rattle.size.specs.Refusal.{numberOf}
-use Rattle.size.specs.declared.Refusal.the-variants.{Damaged, BadMark, CutShort, Doubtful}
+use Rattle.size.specs.declared.Refusal.the-variants.{Damaged, BadMark, CutShort, Doubtful, NotGood}
 use Rattle.size.specs.Told.{given-size, refused-size, judged-well, judged-no}
 use Rattle.house.specs.SizeTest.{sizeOk, size-sound, size-complete}
 use Rattle.house.specs.SlopeTest.{clear, slopeOk, slope-sound, slope-complete}
@@ -72,6 +72,13 @@ same-number e = omega arith
 -- one that gives a doubtful tile the number of a damaged one
 pub doubtful-as-damaged : numberOf Doubtful ≡ numberOf Damaged → ⊥
 doubtful-as-damaged e = omega arith
+
+-- one that counts on from 8, and so says 9 of a restored tile that is not good; and one that says of it what read does
+pub counts-on : numberOf NotGood ≡ 9 → ⊥
+counts-on e = omega arith
+
+pub not-good-as-damaged : numberOf NotGood ≡ numberOf Damaged → ⊥
+not-good-as-damaged e = omega arith
 
 -- a house slope that is always 2
 pub always-2 : HouseTold 7 (slope 2) → ⊥

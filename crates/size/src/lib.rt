@@ -18,6 +18,8 @@ pub enum Refusal {
     BadMark,
     CutShort,
     Doubtful,
+    NotGood,
+    DiffersElsewhere,
 }
 
 // The number of a refusal (SPEC 9.1).
@@ -33,6 +35,8 @@ pub fn number(refusal: Refusal) -> usize
         Refusal::BadMark => 6,
         Refusal::CutShort => 7,
         Refusal::Doubtful => 8,
+        Refusal::NotGood => 10,
+        Refusal::DiffersElsewhere => 11,
     }
 }
 

@@ -30,7 +30,7 @@ sizeAnswer (size.slope l) = answer 0 l 0
 sizeAnswer size.well = done
 sizeAnswer (size.refused n) = refusal n
 
--- SPEC 11.1: what write, read, fill and repair say; a column is kind 1 and a row kind 2, with its number, and a cell is kind 3 with its row
+-- SPEC 11.1: what write, read, fill, judge and repair say; a column is kind 1 and a row kind 2, with its number, and a cell is kind 3 with its row
 -- first and its column second
 abbrev pub tileAnswer : tile.Said → Answer
 tileAnswer tile.done = done

@@ -62,7 +62,7 @@ pub fn of_judgement(answer: Judgement) -> u64
     }
 }
 
-// What write, read and fill answer.
+// What write, read, fill and judge answer.
 pub fn of_outcome(answer: Outcome) -> u64
     ensures { λ r. ⌜ r ≡ spec.word (spec.tileAnswer (outcomeSaid answer)) ⌝ }
 {
@@ -76,7 +76,7 @@ pub fn of_outcome(answer: Outcome) -> u64
 pub fn version() -> u64
     ensures { λ r. ⌜ r ≡ numbered.version ⌝ }
 {
-    400
+    500
 }
 
 // The line that a number names.

@@ -1,9 +1,9 @@
--- `filler::has_both` meets its contract. Assumes nothing.
+-- `promise::has_both` meets its contract. Assumes nothing.
 use borrow.Author.Needs.{needs}
 use Rattle.code.specs.Says.{says-true, says-false, says-both}
 use Rattle.promise.specs.Calls.{Has}
-use Rattle.filler.proofs.has_both.Statement.{statement}
-use Rattle.filler.proofs.has_both.Tie as tie
+use Rattle.promise.proofs.has_both.Statement.{statement}
+use Rattle.promise.proofs.has_both.Tie as tie
 
 has-requires : tie.Need-has-requires
 has-requires c κs = search needs

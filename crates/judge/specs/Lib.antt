@@ -1,0 +1,2 @@
+-- How two tiles are compared.
+pub mod Outside
