@@ -7,7 +7,7 @@ from typing import NamedTuple
 from expected import reel as reels
 from expected.sheet import correct
 from expected.sizes import HOUSE, NEW, OLD, Kind, is_size, verdict
-from expected.tile import fill, read, repair, sums, tile_length, write
+from expected.tile import fill, judge, read, repair, sums, tile_length, write
 
 COLON = 23  # the column that tells a question
 LOST = 0xFF  # what a byte that is lost lies there as
@@ -49,7 +49,7 @@ def question(line):
         return None
     name, sign, p, l, first, second = line[:7].strip(), line[7], line[8:11], line[12:15], line[16:19], line[20:23]
     held, _, lent = line[COLON + 1 :].partition(":")
-    lines = (flag(first), flag(second)) if name == "fill" else ()
+    lines = (flag(first), flag(second)) if name in ("fill", "accept") else ()
     return Question(name, OLD if sign == "o" else NEW, number(p), number(l), lines, parsed(held), parsed(lent))
 
 
@@ -92,6 +92,8 @@ def answered(asked):
         answer, left = repair(kind, p, l, held)
     elif name == "fill":
         answer, left = fill(kind, p, l, held, *lines)
+    elif name == "accept":
+        answer, left = judge(p, l, lent, held, *lines), held
     elif name == "correct":
         answer, left = correct(kind, p, l, held, lent)
     elif name == "house":

@@ -11,7 +11,7 @@ text that the program prints for it."""
 
 from functools import cache, lru_cache
 
-from expected.sizes import is_allowed, verdict
+from expected.sizes import NEW, is_allowed, verdict
 
 
 def place(p, i, j):
@@ -232,6 +232,21 @@ def fill(kind, p, l, tile, first, second):
     if filled in (None, SEVERAL):
         return "refused 5" if filled is None else "refused 8", tile
     return "done", filled
+
+
+def judge(p, l, scan, restored, first, second):
+    """SPEC 5.5: the answer; nothing is changed. What is accepted is the filling of the scan, and what is not is none."""
+    no = refusal(NEW, p, l, lambda: len(scan) == len(restored) == tile_length(p))
+    if no:
+        return no
+    if first[1] > p - 2 or second[1] > p - 2:
+        return "refused 4"
+    named = {*places(p, first), *places(p, second)}
+    agree = all(scan[k] == restored[k] for k in range(tile_length(p)) if k not in named)
+    assert (filling(p, l, scan, first, second) == restored) == (is_good(p, l, restored) and agree)
+    if not is_good(p, l, restored):
+        return "refused 10"
+    return "done" if agree else "refused 11"
 
 
 def parsed(picture, lost=0):

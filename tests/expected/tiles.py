@@ -1,5 +1,5 @@
-"""The worked tiles of SPEC 10, 1 to 11 at p 5 and l 2, and 13 to 17, which are old, at p 7 and l 2, and what is said there of each: the
-script must ask it, of these bytes, and the answer that the rules give must be the one that is said."""
+"""The worked tiles of SPEC 10, 1 to 11 at p 5 and l 2, and 13 to 17, which are old, at p 7 and l 2, the judgements 18 to 24, and what is
+said there of each: the script must ask it, of these bytes, and the answer that the rules give must be the one that is said."""
 
 from expected.sheet import added, change, record
 from expected.sizes import NEW, OLD
@@ -26,6 +26,16 @@ REPAIRED = {
 FILLED = {
     9: ((1, 1), "0 1 0 1 / 1 1 0 0 / 1 0 0 0 / 1 0 0 0"),
     10: ((2, 3), None),
+}
+# A tile that was restored from the scan of 9, the two lines that are named, and the answer.
+RESTORED = {
+    18: (FILLED[9][1], ("row", 0), ("column", 0), "done"),
+    19: ("0 0 0 0 / 0 0 0 0 / 0 0 0 0 / 0 0 0 0", ("row", 0), ("column", 0), "refused 11"),
+    20: ("0 0 0 0 / 0 1 0 0 / 0 0 0 0 / 0 0 0 0", ("row", 0), ("column", 0), "refused 10"),
+    21: ("0 0 0 0 / 0 0 0 0 / 0 0 0 1 / 0 0 0 0", ("row", 0), ("column", 0), "refused 10"),
+    22: (FILLED[9][1], ("row", 0), ("row", 0), "refused 11"),
+    23: (FILLED[9][1], ("column", 0), ("column", 0), "refused 11"),
+    24: (FILLED[9][1], ("row", 0), ("column", 4), "refused 4"),
 }
 LOST = (0, 255)  # what stands in the lost cells
 OTHER = 7  # what stands in a tile before it is written, and in a text before it is read
@@ -139,7 +149,14 @@ def hold_old_corrected(says):
     says("mend", p, l, corrected, [], "refused 8", corrected, kind=OLD)
 
 
+def hold_judged(says):
+    """Judgements 18 to 24."""
+    for restored, first, second, answer in RESTORED.values():
+        tile = parsed(restored)
+        says("accept", P, L, tile, ones([(1, 1)]), answer, tile, (first, second))
+
+
 def hold(says):
     """All of them."""
-    for part in (hold_written, hold_repaired, hold_filled, hold_corrected, hold_edges, hold_old, hold_old_corrected):
+    for part in (hold_written, hold_repaired, hold_filled, hold_corrected, hold_edges, hold_old, hold_old_corrected, hold_judged):
         part(says)

@@ -16,6 +16,7 @@ pub fn ask(told: Told, held: &mut [u8], lent: &[u8]) {
         b'r' => answer::outcome(tile::read(kind, p, l, lent, held)),
         b'm' => answer::repaired(tile::repair(kind, p, l, held)),
         b'f' => answer::outcome(tile::fill(kind, p, l, held, first, second)),
+        b'a' => answer::outcome(tile::judge(p, l, lent, held, first, second)),
         b'c' => answer::corrected(sheet::correct(kind, p, l, held, lent)),
         _ => look(name, kind, p, l, held),
     }
