@@ -1,6 +1,6 @@
 -- WHAT JUDGING SETTLES (SPEC 5.5), over the contracts of judge and fill: a tile is accepted exactly if it is the one that fill makes of the
 -- scan, told the same lines. So no wrong tile is ever accepted, whoever made it. Assumes nothing.
-use mathlib.Core.Path.{_≡_, refl, sym, _∙_}
+use mathlib.Core.Path.{_≡_, refl, sym}
 use mathlib.Core.Logic.{inr, _↔_, ⊎-elim}
 use mathlib.Core.List.{List}
 use Prim.Native.Nat.{ℕ}
