@@ -33,7 +33,7 @@ fn judge_lengths(p: usize, l: usize, scan: usize, restored: usize) -> Judgement
     }
 }
 
-// Says Done of a restored tile that is good and differs from the scan on the named lines alone. One line is named twice.
+// Says Done of a restored tile that is good and differs from the scan on the named lines alone. To name one line, name it twice.
 pub fn judge(p: usize, l: usize, scan: &[u8], restored: &[u8], first: Line, second: Line) -> Outcome
     ensures { λ r. ⌜ JudgeTold p l (now (scan .entry)) (now (restored .entry)) first second (outcomeSaid r) ⌝ }
 {

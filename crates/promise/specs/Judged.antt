@@ -16,8 +16,9 @@ use Rattle.code.specs.Kind.{allowed-taken}
 use Rattle.code.specs.declared.Kind.{Kind}
 use Rattle.code.specs.declared.Kind.the-variants.{New}
 use Rattle.code.specs.declared.Line.{Line}
+use Rattle.size.specs.Answer.{no-slope}
 use Rattle.promise.specs.Answer.{Said, done, refused}
-use Rattle.promise.specs.Calls.{Looked, Has, FillTold, JudgeTold}
+use Rattle.promise.specs.Calls.{judged, Looked, Has, FillTold, JudgeTold}
 use Rattle.promise.specs.Admit.{admits, admitted-well, admitted-low, slope-of}
 use Rattle.promise.specs.Once.{fill-told-once, judge-told-once}
 use Rattle.promise.specs.Kinds.{fill-either}
@@ -69,20 +70,23 @@ accepted-once t u = accepted-filled u (accepted-told New t) .1
 
 -- .. and where the scan is that of a good tile with changes in these lines, it is that tile, which is accepted
 module _ {p l : ℕ} {scan x : List ℕ} {a b : Line} (good : Good p l x) (size : length x ≡ tileLength p) (same : EqualOutsideBoth p a b x scan) where
+  original : Size p → Allowed p l → length scan ≡ tileLength p → Has p a → Has p b → JudgeTold p l scan x a b done
+  original s allowed e ha hb = JudgeTold.accepts (admits s allowed (e, size)) ha hb good (λ i j hi hj d q. sym (same i j hi hj d q))
+
   pub original-accepted : {said : Said} → Size p → Allowed p l → length scan ≡ tileLength p → Has p a → Has p b → JudgeTold p l scan x a b said → said ≡ done
-  original-accepted {said} s allowed e ha hb t =
-      judge-told-once p l scan x a b said done t
-      (JudgeTold.accepts (admits s allowed (e, size)) ha hb good (λ i j hi hj d q. sym (same i j hi hj d q)))
+  original-accepted {said} s allowed e ha hb t = judge-told-once p l scan x a b said done t (original s allowed e ha hb)
 
   pub accepted-original : {restored : List ℕ} → JudgeTold p l scan restored a b done → restored ≡ x
-  accepted-original {restored} (JudgeTold.accepts h ha hb g agrees) =
-      fills-once p l scan (slope-of h) a b (inr (admitted-well h .1 .reach)) restored x
-      (record { size = admitted-well h .2 .1; good = g; agrees = agrees })
-      (record { size = size; good = good; agrees = λ i j hi hj d q. sym (same i j hi hj d q) })
+  accepted-original (JudgeTold.accepts h ha hb g agrees) =
+      let w = admitted-well h in accepted-once (JudgeTold.accepts h ha hb g agrees) (original (w .0) (w .1) (w .2 .0) ha hb)
 
--- ---- what the two numbers tell
+-- ---- what the numbers tell
 
 module _ {p l : ℕ} {scan restored : List ℕ} {a b : Line} where
+  -- 2, WHERE A SLOPE IS NOT ALLOWED: nothing is judged there, whatever the tiles and the lines
+  pub unallowed-judged : {said : Said} → Size p → (Allowed p l → ⊥) → JudgeTold p l scan restored a b said → said ≡ refused 2
+  unallowed-judged {said} s f t = judge-told-once p l scan restored a b said (refused 2) t (JudgeTold.refuses (judged (no-slope s f)))
+
   -- 10: the restored tile is not good, and 11: it is, and some cell outside the lines differs, whose row and column can be told
   pub judged-10 : JudgeTold p l scan restored a b (refused 10) → Good p l restored → ⊥
   judged-10 (JudgeTold.refuses h) = absurd (omega (arith, admitted-low h))

@@ -12,13 +12,14 @@ use Rattle.code.specs.declared.Kind.the-variants.{New, Old}
 use Rattle.code.specs.declared.Line.{Line}
 use Rattle.code.specs.declared.Line.the-variants.{Row, Column}
 use Rattle.size.specs.Answer as size
-use Rattle.size.specs.Shams.{size-5, no-at-7-2}
+use Rattle.size.specs.Shams.{size-5, size-7, no-at-7-2}
 use Rattle.promise.specs.Answer.{Said, done, clean, cell, column, refused}
 use Rattle.promise.specs.Calls.{Admitted, judged, WriteTold, ReadTold, Looked, OneByte, MoreBytes, by-cell, by-column, by-row, RepairTold, FillTold, JudgeTold}
 use Rattle.promise.specs.Admit.{admitted-well, admitted-no}
 use Rattle.promise.specs.Name.{lineSaid, one-or-more}
 use Rattle.promise.specs.Once.{repair-told-once}
 use Rattle.promise.specs.Promise.{read-after-write, write-refused}
+use Rattle.promise.specs.Judged.{unallowed-judged}
 use Rattle.promise.specs.Worked.{Exactly, claimed, other-claimed, taken-5-2, zeros, text-1, tile-1, text-2, tile-2, tile-4, tile-9, filled-9, tile-10, copied-1, hurt-2}
 use Rattle.promise.specs.WorkedOld as old
 use Rattle.promise.specs.WorkedJudged.{Judges, judgement}
@@ -131,13 +132,9 @@ elsewhere-first = misjudged (judgement 21) (refused 11) (λ e. cc)
 pub one-line-alone : JudgeTold 5 2 tile-9 filled-9 (Row 0) (Column 0) (refused 11) → ⊥
 one-line-alone = misjudged (judgement 18) (refused 11) (λ e. cc)
 
--- one that passes over the lines, and so accepts what differs on another one
-pub any-line : JudgeTold 5 2 tile-9 filled-9 (Row 0) (Row 0) done → ⊥
-any-line = misjudged (judgement 22) done (λ e. cc)
-
--- one that takes old slopes: whatever it says there but 2, and whatever the tiles and the lines
-pub judges-old : {scan restored : List ℕ} {a b : Line} → JudgeTold 7 2 scan restored a b done → ⊥
-judges-old (JudgeTold.accepts h ha hb g same) = no-at-7-2 (admitted-well h .1)
+-- one that takes old slopes, and so says anything but 2 there, whatever the tiles and the lines
+pub judges-old : {scan restored : List ℕ} {a b : Line} (said : Said) → (said ≡ refused 2 → ⊥) → JudgeTold 7 2 scan restored a b said → ⊥
+judges-old said d r = d (unallowed-judged size-7 no-at-7-2 r)
 
 -- ---- write and read
 
