@@ -2,13 +2,18 @@
 
 from measuring import SIZES
 
-# The eleven works, each with the name of its case.
+# The sixteen works, each with the name of its case.
 WORKS = {
     "write": "write",
     "read": "read",
     "repair-clean": "repair, clean tile",
     "repair-column": "repair, one hurt column",
+    "repair-text-column": "repair, one hurt column of the text",
     "repair-row": "repair, one hurt row",
+    "inspect-column": "inspect, one hurt column",
+    "recover-clean": "recover, clean tile",
+    "recover-text-column": "recover, one hurt column of the text",
+    "recover-row": "recover, one hurt row",
     "fill-columns": "fill, two columns",
     "fill-rows": "fill, two rows",
     "fill-crossed": "fill, a row with a column",
@@ -29,11 +34,19 @@ OTHERS = {
 
 FLOORS = [("each byte read once", "plain XOR", "plain-xor"), ("each byte copied", "memcpy", "plain-memcpy")]
 
-# The goals: instructions of read for each byte; how many times what read costs the others may cost; and how much more a further row may cost a
-# correction at the larger sizes than at the smaller ones. To copy the tile once, by memcpy, would make the last one about 1.3.
+# The goals: instructions of read for each byte; how many times what read costs the others may cost; how many times what repair or read of
+# the same tile costs it may cost to recover or inspect that tile; and how much more a further row may cost a correction at the larger sizes
+# than at the smaller ones. To copy the tile once, by memcpy, would make the last one about 1.3.
 READ_GOALS = {127: 3.5, 257: 2.2}
 BESIDE_READ_GOALS = {"repair-clean": 1} | dict.fromkeys(
     ["repair-column", "repair-row", "fill-columns", "fill-rows", "fill-crossed", "judge", "write"], 2)
+# Recover is held beside the dearer of repair and read; of a hurt tile that is repair, since read refuses it.
+SAME_TILE_GOALS = {
+    "recover-clean": ("the dearer of repair and read", ["repair-clean", "read"], 1.1),
+    "recover-text-column": ("repair", ["repair-text-column"], 1.1),
+    "recover-row": ("repair", ["repair-row"], 1.1),
+    "inspect-column": ("repair", ["repair-column"], 1),
+}
 FURTHER_ROW_GOAL = 1.05
 
 
@@ -119,15 +132,17 @@ def read_goal(counts, p):
     return judged(each, READ_GOALS[p]) if p in READ_GOALS else figure(each)
 
 
-def beside_read(counts, case, most):
-    return [judged(counts["cf-" + case, p] / counts["cf-read", p], most) for p in SIZES]
+def beside(counts, case, named, others, most):
+    """The row of a goal: a work's instructions beside those of another work or, of several, of the dearest at each size."""
+    measured = [counts["cf-" + case, p] / max(counts["cf-" + other, p] for other in others) for p in SIZES]
+    return [f"{WORKS[case]}: instructions beside those of {named}", most, *(judged(each, most) for each in measured)]
 
 
 def goals_table(counts):
     reading = ", ".join(f"{most} at p {p}" for p, most in READ_GOALS.items())
     rows = [["read, instructions for each byte", reading, *(read_goal(counts, p) for p in SIZES)]]
-    for case, most in BESIDE_READ_GOALS.items():
-        rows.append([f"{WORKS[case]}: instructions beside those of read", most, *beside_read(counts, case, most)])
+    rows += [beside(counts, case, "read", ["read"], most) for case, most in BESIDE_READ_GOALS.items()]
+    rows += [beside(counts, case, *goal) for case, goal in SAME_TILE_GOALS.items()]
     small, large = further_rows(counts)
     growth = judged(large / small, FURTHER_ROW_GOAL)
     rows.append(["correct: a row more, beside a row more at the sizes before", FURTHER_ROW_GOAL, "", "", growth])

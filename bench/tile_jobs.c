@@ -1,4 +1,4 @@
-/* The jobs of the tile calls and of the sheet: the same eleven for the library and for the independent implementation, whose
+/* The jobs of the tile calls and of the sheet: the same sixteen for the library and for the independent implementation, whose
  * calls have the same parameters. */
 
 #include <string.h>
@@ -15,6 +15,8 @@ struct calls {
     uint64_t (*write)(size_t, size_t, size_t, const uint8_t *, size_t, uint8_t *, size_t);
     uint64_t (*read)(size_t, size_t, size_t, const uint8_t *, size_t, uint8_t *, size_t);
     uint64_t (*repair)(size_t, size_t, size_t, uint8_t *, size_t);
+    uint64_t (*inspect)(size_t, size_t, size_t, const uint8_t *, size_t);
+    uint64_t (*recover)(size_t, size_t, size_t, const uint8_t *, size_t, uint8_t *, size_t);
     uint64_t (*fill)(size_t, size_t, size_t, uint8_t *, size_t, size_t, size_t);
     uint64_t (*judge)(size_t, size_t, const uint8_t *, size_t, const uint8_t *, size_t, size_t, size_t);
     uint64_t (*correct)(size_t, size_t, size_t, uint8_t *, size_t, const uint8_t *, size_t, uint64_t *);
@@ -50,6 +52,20 @@ static uint64_t call_repair(const struct job *job, uint8_t *copy)
     const struct given *given = job->given;
 
     return given->calls->repair(CF_NEW, job->p, SLOPE, copy, job->length);
+}
+
+static uint64_t call_inspect(const struct job *job, uint8_t *copy)
+{
+    const struct given *given = job->given;
+
+    return given->calls->inspect(CF_NEW, job->p, SLOPE, copy, job->length);
+}
+
+static uint64_t call_recover(const struct job *job, uint8_t *copy)
+{
+    const struct given *given = job->given;
+
+    return given->calls->recover(CF_NEW, job->p, SLOPE, given->scan, cf_tile_len(job->p), copy, job->length);
 }
 
 static uint64_t call_fill(const struct job *job, uint8_t *copy)
@@ -121,6 +137,24 @@ static void prepare_repair(struct job *job, struct given *given, uint8_t *damage
     job->answer = answer;
 }
 
+/* An inspection of the tile as `damaged` holds it, which stays so. */
+static void prepare_inspect(struct job *job, uint8_t *damaged, uint64_t answer)
+{
+    job->call = call_inspect;
+    job->before = damaged;
+    job->after = damaged;
+    job->answer = answer;
+}
+
+/* A recovery of the text out of the tile as `damaged` holds it: the text that is read out of the tile as it was. */
+static void prepare_recover(struct job *job, struct given *given, uint8_t *damaged, uint64_t answer)
+{
+    prepare_read(job, given);
+    job->call = call_recover;
+    job->answer = answer;
+    given->scan = damaged;
+}
+
 /* A filling of two lines, each lost as a whole. */
 static void prepare_fill(struct job *job, struct given *given, uint8_t *damaged, size_t first, size_t second)
 {
@@ -173,12 +207,12 @@ static void prepare_correct(struct job *job, struct given *given, size_t records
     job->answer = records;
 }
 
-/* The jobs by name. A lone hurt line is the last of its kind, where the search comes last; lost lines lie a third and two
- * thirds of the way. */
+/* The jobs by name. A lone hurt line is the last of its kind, where the search comes last; the last column of all holds checks, so
+ * where the text has to be mended it is the last one of the text. Lost lines lie a third and two thirds of the way. */
 static bool prepare_tile_job(const struct calls *calls, const char *name, size_t p, struct job *job)
 {
     struct given *given = new_memory(sizeof *given);
-    size_t last = p - 2, third = p / 3, two_thirds = 2 * p / 3;
+    size_t last = p - 2, last_of_text = p - 4, third = p / 3, two_thirds = 2 * p / 3;
     uint8_t *hurt;
 
     given->calls = calls;
@@ -195,9 +229,23 @@ static bool prepare_tile_job(const struct calls *calls, const char *name, size_t
     } else if (strcmp(name, "repair-column") == 0) {
         damage_column(hurt, p, last);
         prepare_repair(job, given, hurt, answer_of(CF_KIND_COLUMN, last));
+    } else if (strcmp(name, "repair-text-column") == 0) {
+        damage_column(hurt, p, last_of_text);
+        prepare_repair(job, given, hurt, answer_of(CF_KIND_COLUMN, last_of_text));
     } else if (strcmp(name, "repair-row") == 0) {
         damage_row(hurt, p, last);
         prepare_repair(job, given, hurt, answer_of(CF_KIND_ROW, last));
+    } else if (strcmp(name, "inspect-column") == 0) {
+        damage_column(hurt, p, last);
+        prepare_inspect(job, hurt, answer_of(CF_KIND_COLUMN, last));
+    } else if (strcmp(name, "recover-clean") == 0) {
+        prepare_recover(job, given, hurt, answer_of(CF_KIND_DONE, 0));
+    } else if (strcmp(name, "recover-text-column") == 0) {
+        damage_column(hurt, p, last_of_text);
+        prepare_recover(job, given, hurt, answer_of(CF_KIND_COLUMN, last_of_text));
+    } else if (strcmp(name, "recover-row") == 0) {
+        damage_row(hurt, p, last);
+        prepare_recover(job, given, hurt, answer_of(CF_KIND_ROW, last));
     } else if (strcmp(name, "fill-columns") == 0) {
         damage_column(hurt, p, third);
         damage_column(hurt, p, two_thirds);
@@ -226,14 +274,16 @@ static bool prepare_tile_job(const struct calls *calls, const char *name, size_t
 
 bool prepare_counterfrost(const char *name, size_t p, struct job *job)
 {
-    static const struct calls calls = { cf_write, cf_read, cf_repair, cf_fill, cf_judge, cf_correct };
+    static const struct calls calls = { cf_write, cf_read, cf_repair, cf_inspect, cf_recover, cf_fill, cf_judge, cf_correct };
 
     return prepare_tile_job(&calls, name, p, job);
 }
 
 bool prepare_peer(const char *name, size_t p, struct job *job)
 {
-    static const struct calls calls = { peer_write, peer_read, peer_repair, peer_fill, peer_judge, peer_correct };
+    static const struct calls calls = {
+        peer_write, peer_read, peer_repair, peer_inspect, peer_recover, peer_fill, peer_judge, peer_correct,
+    };
 
     return prepare_tile_job(&calls, name, p, job);
 }

@@ -2,10 +2,10 @@
  * Counterfrost: square tiles of bytes that can be repaired. For C99 and later, and for C++.
  *
  * A tile holds a text and two columns of checks. If one row or one column of it is hurt, cf_repair finds the line and puts it right
- * without being told which; if that was a single byte, it finds the very cell. If one or two lines are lost and you know which, cf_fill
- * fills them in. cf_judge says whether a tile that somebody else restored is the one that cf_fill would make. cf_correct changes single
- * bytes of the text on a tile that may itself be hurt. Where there is no answer, or on an old tile more than one, a call says so by a
- * number and touches nothing.
+ * without being told which; if that was a single byte, it finds the very cell. cf_recover gives the text of the repaired tile and leaves
+ * the scan as it is; cf_inspect only says what is hurt. If one or two lines are lost and you know which, cf_fill fills them in. cf_judge
+ * says whether a tile that somebody else restored is the one that cf_fill would make. cf_correct changes single bytes of the text on a
+ * tile that may itself be hurt. Where there is no answer, or on an old tile more than one, a call says so by a number and touches nothing.
  *
  * SIZES AND SLOPES
  *   The size p says how large a tile is: one byte less than p in each direction, so that size 5 is a tile of 4 by 4 bytes, and 257 one of
@@ -31,14 +31,16 @@
  *   Every call but cf_version answers one 64-bit word: a kind of answer, and two numbers. cf_kind, cf_first and cf_second take it apart.
  *
  *     kind              first         second        means
- *     CF_KIND_DONE      0             0             done; for cf_repair: nothing was hurt; for cf_judge: accepted; for cf_next: a tile
- *                                                   stands here
+ *     CF_KIND_DONE      0             0             done; for cf_repair, cf_inspect and cf_recover: nothing was hurt; for cf_judge:
+ *                                                   accepted; for cf_next: a tile stands here
  *     CF_KIND_DONE      the slope     0             for cf_house_slope only
  *     CF_KIND_COLUMN    the column    0             cf_repair put two bytes or more right, all in this column
  *     CF_KIND_ROW       the row       0             cf_repair put two bytes or more right, all in this row
  *     CF_KIND_CELL      the row       the column    cf_repair put one byte right, in this cell
  *     CF_KIND_REFUSED   the number    0             refused; see below
  *     CF_KIND_END       0             0             cf_next: the reel ends here
+ *
+ *   cf_inspect and cf_recover answer what cf_repair would: a column, a row or a cell is where it would change bytes.
  *
  *   Up to version 0.2.0 a single hurt byte was told as CF_KIND_COLUMN, with its column, and CF_KIND_CELL was never answered. A program that
  *   was written for such a version has to take CF_KIND_CELL too, which has the column as its second number. All else that is answered, and
@@ -49,7 +51,7 @@
  *   the kind, which comes before the others and is the one to give for that tile; a record that begins with 5D D5 was refused 6 before, and
  *   is an old tile now.
  *
- *   Up to version 0.4.0 there was no cf_judge, and no refusal above 8.
+ *   Up to version 0.4.0 there was no cf_judge, and no refusal above 8. Up to version 0.5.0 there was no cf_inspect and no cf_recover.
  *
  * REFUSALS
  *   A refused call changes no byte of a tile or text. Its number says why, and cf_refusal_words has words for it. Where several apply, the
@@ -60,10 +62,11 @@
  *     3 CF_BAD_LENGTH   a tile or a text has another length than p asks for
  *     4 CF_BAD_PLACE    the tile does not have a line that was named (they end at p-2), or the text does not have a place to be corrected
  *                       (its rows end at p-2, its columns at p-4)
- *     5 CF_DAMAGED      cf_read: the tile is not good; cf_repair, cf_fill: no such repair exists
+ *     5 CF_DAMAGED      cf_read: the tile is not good; cf_repair, cf_inspect, cf_recover, cf_fill: no such repair exists
  *     6 CF_BAD_MARK     a record of a sheet does not begin with its mark, or one of a reel with neither of its two
  *     7 CF_CUT_SHORT    a sheet or a reel ends within a record
- *     8 CF_DOUBTFUL     cf_repair, cf_fill, of an old tile: two different good tiles would do, and nothing tells which was printed
+ *     8 CF_DOUBTFUL     cf_repair, cf_inspect, cf_recover, cf_fill, of an old tile: two different good tiles would do, and nothing tells
+ *                       which was printed
  *    10 CF_NOT_GOOD     cf_judge: the restored tile is not good
  *    11 CF_DIFFERS_ELSEWHERE
  *                       cf_judge: the restored tile is good, and differs from the scan outside the named lines
@@ -92,8 +95,8 @@ extern "C" {
 
 /* The version of this header: 10000 times the first of its numbers, 100 times the second, and the third. cf_version gives that of the
  * library. Until 1.0.0 calls may change where the second number does; the shared library is named by these two. */
-#define CF_VERSION 500
-#define CF_VERSION_TEXT "0.5.0"
+#define CF_VERSION 600
+#define CF_VERSION_TEXT "0.6.0"
 
 /* The kinds of a tile, which a call is told before p and l, and which cf_next gives back. Any number but 1 counts as new. */
 #define CF_NEW 0u
@@ -133,7 +136,7 @@ uint64_t cf_takes(size_t kind, size_t p, size_t l);
 /* Writes the good tile that has the text; what the tile held before does not matter. CF_KIND_DONE, or refused 1, 2 or 3. */
 uint64_t cf_write(size_t kind, size_t p, size_t l, const uint8_t *text, size_t text_len, uint8_t *tile, size_t tile_len);
 
-/* Reads the text out of a good tile. CF_KIND_DONE, or refused 1, 2, 3, or 5 for a tile that is not good: repair that one first. */
+/* Reads the text out of a good tile. CF_KIND_DONE, or refused 1, 2, 3, or 5 for a tile that is not good: take cf_recover for that one. */
 uint64_t cf_read(size_t kind, size_t p, size_t l, const uint8_t *tile, size_t tile_len, uint8_t *text, size_t text_len);
 
 /*
@@ -147,6 +150,16 @@ uint64_t cf_read(size_t kind, size_t p, size_t l, const uint8_t *tile, size_t ti
  * could tell: if you know the lines, use cf_fill.
  */
 uint64_t cf_repair(size_t kind, size_t p, size_t l, uint8_t *tile, size_t tile_len);
+
+/* Says what is hurt in a scanned tile: answers what cf_repair would, and writes nothing. Refused 1, 2, 3, 5 or 8, as cf_repair is. */
+uint64_t cf_inspect(size_t kind, size_t p, size_t l, const uint8_t *scan, size_t scan_len);
+
+/*
+ * Repairs a scanned tile and reads it, in one call, and leaves the scan as it is. The answer is that of cf_repair, and the text becomes
+ * that of the tile which cf_repair would leave: what cf_read gives after cf_repair of a copy. Of a good tile, CF_KIND_DONE, it is what
+ * cf_read gives. Refused 1, 2, 3 where the scan or the text has another length, 5 or 8, as cf_repair is; then the text stays as it was.
+ */
+uint64_t cf_recover(size_t kind, size_t p, size_t l, const uint8_t *scan, size_t scan_len, uint8_t *text, size_t text_len);
 
 /*
  * Fills one or two lost lines, whatever bytes they hold now. Each line is named by cf_row(3) or cf_column(3), ALWAYS: a bare number is taken
@@ -190,7 +203,8 @@ uint64_t cf_correct(size_t kind, size_t p, size_t l, uint8_t *tile, size_t tile_
  * CF_KIND_DONE: a tile. You get its kind, CF_NEW or CF_OLD, its number, its p and l, and the offset where its bytes begin; the next record
  * is at that offset plus cf_tile_len(p). CF_KIND_END: the reel has no byte at the place. Refused 7 (the header, of 10 bytes, is cut), 6, 1,
  * 2 (by the kind that the mark says), or 7 (the tile is cut), with the place itself in *offset. All five numbers are set by every call, to
- * 0 where there is no value. The tile is not judged: it may be hurt. To repair it, copy its bytes first, or let the reel be yours to change.
+ * 0 where there is no value. The tile is not judged: it may be hurt. cf_inspect and cf_recover leave it on the reel as it is; to repair it,
+ * copy its bytes first, or let the reel be yours to change.
  */
 uint64_t cf_next(const uint8_t *reel, size_t reel_len, size_t at, uint64_t *kind, uint64_t *number, uint64_t *p, uint64_t *l,
                  uint64_t *offset);

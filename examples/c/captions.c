@@ -1,8 +1,8 @@
 /*
  * The life of one tile: a caption is written, a splice takes a row and a scratch a column, both are filled in; a lab that restored
- * the same scan is judged, once with every byte right and once with one that is wrong; then a second scratch goes through the very
- * letter that has to be corrected, the letter is corrected all the same, the scratch is repaired, and so is a single byte that a
- * grain of dust has changed; and the caption is read.
+ * the same scan is judged, once with every byte right and once with one that is wrong, which is found for the lab; the caption is
+ * read, and has a wrong letter. A second scratch goes through that very letter; the letter is corrected all the same, and the tile
+ * is repaired. Then a grain of dust changes a single byte, and the caption is recovered from that scan, which stays as it is.
  */
 #include "counterfrost.h"
 
@@ -25,11 +25,20 @@ static uint64_t accepted(const char *call, uint64_t answer)
     return answer;
 }
 
-/* Lays the caption into a text, and fills the rest with spaces. */
-static void lay_caption(uint8_t text[TEXT])
+/* Writes the caption to a tile. The rest of its text is spaces. */
+static void write_caption(size_t slope, uint8_t tile[TILE])
 {
+    uint8_t text[TEXT];
+
     memset(text, ' ', TEXT);
     memcpy(text, CAPTION, strlen(CAPTION));
+    accepted("cf_write", cf_write(CF_NEW, SIZE, slope, text, TEXT, tile, TILE));
+}
+
+/* Prints the caption that a text holds. */
+static void print_caption(const uint8_t text[TEXT])
+{
+    printf("%.*s\n", (int)strlen(CAPTION), (const char *)text);
 }
 
 /* What a splice does to a row, a scratch to a column, and a grain of dust to a cell. */
@@ -52,22 +61,21 @@ static void dust(uint8_t tile[TILE], size_t row, size_t column)
     tile[row * COLUMNS + column] ^= 0x20;
 }
 
-/* Repairs the tile, and says what was hurt. */
-static void repair(size_t slope, uint8_t tile[TILE])
+/* Says what was hurt, as cf_inspect, cf_repair and cf_recover answer it. */
+static void tell_hurt(const char *done, uint64_t answer)
 {
-    uint64_t answer = accepted("cf_repair", cf_repair(CF_NEW, SIZE, slope, tile, TILE));
     switch (cf_kind(answer)) {
     case CF_KIND_COLUMN:
-        printf("repaired: column %u\n", cf_first(answer));
+        printf("%s: column %u\n", done, cf_first(answer));
         break;
     case CF_KIND_ROW:
-        printf("repaired: row %u\n", cf_first(answer));
+        printf("%s: row %u\n", done, cf_first(answer));
         break;
     case CF_KIND_CELL:
-        printf("repaired: cell %u %u\n", cf_first(answer), cf_second(answer));
+        printf("%s: cell %u %u\n", done, cf_first(answer), cf_second(answer));
         break;
     case CF_KIND_DONE:
-        printf("not hurt\n");
+        printf("%s: not hurt\n", done);
         break;
     }
 }
@@ -84,13 +92,12 @@ static void judge(size_t slope, const uint8_t scan[TILE], const uint8_t restored
 
 int main(void)
 {
-    uint8_t text[TEXT], tile[TILE], scan[TILE], by_hand[TILE], sheet[8];
+    uint8_t tile[TILE], scan[TILE], by_hand[TILE], text[TEXT], sheet[8];
     uint64_t records;
     size_t wrong_letter = (size_t)(strstr(CAPTION, "noom") + 3 - CAPTION);
     size_t slope = cf_first(accepted("cf_house_slope", cf_house_slope(SIZE)));
 
-    lay_caption(text);
-    accepted("cf_write", cf_write(CF_NEW, SIZE, slope, text, TEXT, tile, TILE));
+    write_caption(slope, tile);
     printf("written: size %d, slope %u\n", SIZE, (unsigned)slope);
 
     splice(tile, 4);
@@ -104,17 +111,24 @@ int main(void)
     dust(by_hand, 4, 2);
     judge(slope, scan, by_hand);
 
+    /* The lab's tile is not ours to change: it is only looked at. */
+    tell_hurt("inspected", accepted("cf_inspect", cf_inspect(CF_NEW, SIZE, slope, by_hand, TILE)));
+
+    accepted("cf_read", cf_read(CF_NEW, SIZE, slope, tile, TILE, text, TEXT));
+    printf("read:\n");
+    print_caption(text);
+
     scratch(tile, wrong_letter % TEXT_COLUMNS);
     cf_lay_correction(sheet, wrong_letter / TEXT_COLUMNS, wrong_letter % TEXT_COLUMNS, 'm', 'n');
     accepted("cf_correct", cf_correct(CF_NEW, SIZE, slope, tile, TILE, sheet, sizeof sheet, &records));
     printf("corrected: %u letter\n", (unsigned)records);
 
-    repair(slope, tile);
+    /* The tile itself is put right, to be printed once more. */
+    tell_hurt("repaired", accepted("cf_repair", cf_repair(CF_NEW, SIZE, slope, tile, TILE)));
 
+    /* Here the text is all that is wanted: one call repairs and reads, and leaves the tile with its dust. */
     dust(tile, 5, 12);
-    repair(slope, tile);
-
-    accepted("cf_read", cf_read(CF_NEW, SIZE, slope, tile, TILE, text, TEXT));
-    printf("read:\n%.*s\n", (int)strlen(CAPTION), (const char *)text);
+    tell_hurt("recovered", accepted("cf_recover", cf_recover(CF_NEW, SIZE, slope, tile, TILE, text, TEXT)));
+    print_caption(text);
     return EXIT_SUCCESS;
 }

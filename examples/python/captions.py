@@ -32,13 +32,14 @@ def dust(tile, i, j):
     tile[i * COLUMNS + j] ^= 0x20
 
 
-def repair(library, slope, tile):
-    """Repairs the tile, and says what was hurt."""
-    hurt = library.repair(NEW, SIZE, slope, tile)
-    if hurt:
-        print("repaired:", *hurt)
-    else:
-        print("not hurt")
+def print_caption(text):
+    """Prints the caption that a text holds."""
+    print(text[: len(CAPTION)].decode())
+
+
+def tell_hurt(done, hurt):
+    """Says what was hurt."""
+    print(f"{done}:", *hurt or ["not hurt"])
 
 
 def judge(library, slope, scan, restored):
@@ -68,17 +69,25 @@ def main():
     dust(by_hand, 4, 2)
     judge(library, slope, scan, by_hand)
 
+    # The lab's tile is not ours to change: it is only looked at.
+    tell_hurt("inspected", library.inspect(NEW, SIZE, slope, by_hand))
+
+    print("read:")
+    print_caption(library.read(NEW, SIZE, slope, tile))
+
     wrong_letter = CAPTION.index(b"noom") + 3
     scratch(tile, wrong_letter % TEXT_COLUMNS)
     sheet = correction(*divmod(wrong_letter, TEXT_COLUMNS), ord("m"), ord("n"))
     print(f"corrected: {library.correct(NEW, SIZE, slope, tile, sheet)} letter")
 
-    repair(library, slope, tile)
+    # The tile itself is put right, to be printed once more.
+    tell_hurt("repaired", library.repair(NEW, SIZE, slope, tile))
 
+    # Here the text is all that is wanted: one call repairs and reads, and leaves the tile with its dust.
     dust(tile, 5, 12)
-    repair(library, slope, tile)
-
-    print("read:", library.read(NEW, SIZE, slope, tile)[: len(CAPTION)].decode(), sep="\n")
+    hurt, text = library.recover(NEW, SIZE, slope, tile)
+    tell_hurt("recovered", hurt)
+    print_caption(text)
 
 
 if __name__ == "__main__":

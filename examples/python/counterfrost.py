@@ -8,7 +8,7 @@ import ctypes
 import platform
 from ctypes import byref, c_size_t, c_uint8, c_uint64
 
-NAMED_AS = "libcounterfrost.so.0.5"  # the calls below are those of this version
+NAMED_AS = "libcounterfrost.so.0.6"  # the calls below are those of this version
 
 NEW = 0  # takes the slopes that are allowed at its size
 OLD = 1  # takes every slope from 2 to p-2; where the slope is not allowed, a repair or a filling may be doubtful, which is refused 8
@@ -108,8 +108,18 @@ class Counterfrost:
     def repair(self, kind, p, l, tile):
         """Puts one hurt column or row right, in place, and names what was hurt: ("cell", 2, 3), by row and column, where it was one byte;
         ("column", 3) or ("row", 1) where it was more; None where it was nothing."""
-        answered, first, second = self._ask("cf_repair", _number(kind), _number(p), _number(l), *_lent(tile))
-        return {0: None, 1: ("column", first), 2: ("row", first), 3: ("cell", first, second)}[answered]
+        return _hurt(*self._ask("cf_repair", _number(kind), _number(p), _number(l), *_lent(tile)))
+
+    def inspect(self, kind, p, l, scan):
+        """Names what is hurt in a scan, as repair does. Nothing is changed."""
+        return _hurt(*self._ask("cf_inspect", _number(kind), _number(p), _number(l), *_read_only(scan)))
+
+    def recover(self, kind, p, l, scan):
+        """What is hurt in a scan, named as repair does, and the text of the tile that repair would make of it. The scan stays as it is."""
+        self.check(kind, p, l)
+        text = bytearray(text_length(p))
+        hurt = _hurt(*self._ask("cf_recover", _number(kind), _number(p), _number(l), *_read_only(scan), *_lent(text)))
+        return hurt, bytes(text)
 
     def fill(self, kind, p, l, tile, first, second):
         """Fills one or two lost lines, in place; one line is named twice."""
@@ -143,6 +153,11 @@ class Counterfrost:
             yield kind.value, number.value, p.value, l.value, bytearray(reel[offset.value : at])
 
 
+def _hurt(answered, first, second):
+    """What the answer to repair, inspect or recover names."""
+    return {0: None, 1: ("column", first), 2: ("row", first), 3: ("cell", first, second)}[answered]
+
+
 def _two_bytes(n):
     """A row or a column on a sheet. One that two bytes cannot say is laid as the largest, which no text has."""
     return (n if 0 <= n < 2**16 else 2**16 - 1).to_bytes(2, "big")
@@ -154,7 +169,7 @@ def _number(n):
 
 
 def _lent(memory):
-    """A bytearray as a pointer to its own bytes, and a length. No pointer may be null, so an empty one is lent as one byte that is not used."""
+    """A bytearray as a pointer to its own bytes, and a length. No pointer may be null: an empty one is lent as a byte that is not used."""
     length = len(memory)
     return (c_uint8 * max(length, 1)).from_buffer(memory if length else bytearray(1)), c_size_t(length)
 

@@ -23,15 +23,19 @@ fn dust(tile: &mut [u8], row: usize, column: usize) {
     tile[row * COLUMNS + column] ^= 0x20;
 }
 
-/// Repairs the tile, and says what was hurt.
-fn repair(slope: usize, tile: &mut [u8]) -> Result<(), Refused> {
-    match counterfrost::repair(Kind::New, SIZE, slope, tile)? {
-        Some(Hurt::Line(Line::Column(column))) => println!("repaired: column {column}"),
-        Some(Hurt::Line(Line::Row(row))) => println!("repaired: row {row}"),
-        Some(Hurt::Cell { row, column }) => println!("repaired: cell {row} {column}"),
-        None => println!("not hurt"),
+/// Prints the caption that a text holds.
+fn print_caption(text: &[u8]) {
+    println!("{}", String::from_utf8_lossy(&text[..CAPTION.len()]));
+}
+
+/// Says what was hurt.
+fn tell_hurt(done: &str, hurt: Option<Hurt>) {
+    match hurt {
+        Some(Hurt::Line(Line::Column(column))) => println!("{done}: column {column}"),
+        Some(Hurt::Line(Line::Row(row))) => println!("{done}: row {row}"),
+        Some(Hurt::Cell { row, column }) => println!("{done}: cell {row} {column}"),
+        None => println!("{done}: not hurt"),
     }
-    Ok(())
 }
 
 /// Judges a tile that was restored from a scan of which row 4 and column 9 were lost.
@@ -61,6 +65,14 @@ fn main() -> Result<(), Refused> {
     dust(&mut by_hand, 4, 2);
     judge(slope, &scan, &by_hand);
 
+    // The lab's tile is not ours to change: it is only looked at.
+    tell_hurt("inspected", counterfrost::inspect(Kind::New, SIZE, slope, &by_hand)?);
+
+    let mut text = [0; ROWS * TEXT_COLUMNS];
+    counterfrost::read(Kind::New, SIZE, slope, &tile, &mut text)?;
+    println!("read:");
+    print_caption(&text);
+
     let wrong_letter = CAPTION.find("noom").unwrap() + 3;
     let (row, column) = (wrong_letter / TEXT_COLUMNS, wrong_letter % TEXT_COLUMNS);
     scratch(&mut tile, column);
@@ -68,12 +80,12 @@ fn main() -> Result<(), Refused> {
     let records = counterfrost::correct(Kind::New, SIZE, slope, &mut tile, &record)?;
     println!("corrected: {records} letter");
 
-    repair(slope, &mut tile)?;
+    // The tile itself is put right, to be printed once more.
+    tell_hurt("repaired", counterfrost::repair(Kind::New, SIZE, slope, &mut tile)?);
 
+    // Here the text is all that is wanted: one call repairs and reads, and leaves the tile with its dust.
     dust(&mut tile, 5, 12);
-    repair(slope, &mut tile)?;
-
-    counterfrost::read(Kind::New, SIZE, slope, &tile, &mut text)?;
-    println!("read:\n{}", String::from_utf8_lossy(&text[..CAPTION.len()]));
+    tell_hurt("recovered", counterfrost::recover(Kind::New, SIZE, slope, &tile, &mut text)?);
+    print_caption(&text);
     Ok(())
 }

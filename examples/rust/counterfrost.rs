@@ -10,6 +10,8 @@ mod c {
         pub fn cf_write(kind: usize, p: usize, l: usize, text: *const u8, text_len: usize, tile: *mut u8, tile_len: usize) -> u64;
         pub fn cf_read(kind: usize, p: usize, l: usize, tile: *const u8, tile_len: usize, text: *mut u8, text_len: usize) -> u64;
         pub fn cf_repair(kind: usize, p: usize, l: usize, tile: *mut u8, tile_len: usize) -> u64;
+        pub fn cf_inspect(kind: usize, p: usize, l: usize, scan: *const u8, scan_len: usize) -> u64;
+        pub fn cf_recover(kind: usize, p: usize, l: usize, scan: *const u8, scan_len: usize, text: *mut u8, text_len: usize) -> u64;
         pub fn cf_fill(kind: usize, p: usize, l: usize, tile: *mut u8, tile_len: usize, first: usize, second: usize) -> u64;
         pub fn cf_judge(
             p: usize, l: usize, scan: *const u8, scan_len: usize, restored: *const u8, restored_len: usize, first: usize, second: usize,
@@ -52,7 +54,7 @@ pub enum Line {
     Column(u8),
 }
 
-/// What a repair has put right: one byte, or two bytes or more, all of one line.
+/// What a repair puts right: one byte, or two bytes or more, all of one line.
 #[derive(Clone, Copy, Debug, PartialEq, Eq)]
 pub enum Hurt {
     Cell { row: u8, column: u8 },
@@ -77,6 +79,17 @@ fn taken(answer: u64, offset: u64) -> Result<(u64, u16, u16), Refused> {
     } else {
         Ok((kind, first, second))
     }
+}
+
+/// What an answer to `repair`, `inspect` or `recover` names; nothing where the tile is good.
+fn hurt(answer: u64) -> Result<Option<Hurt>, Refused> {
+    taken(answer, 0).map(|(kind, first, second)| match kind {
+        0 => None,
+        1 => Some(Hurt::Line(Line::Column(first as u8))),
+        2 => Some(Hurt::Line(Line::Row(first as u8))),
+        3 => Some(Hurt::Cell { row: first as u8, column: second as u8 }),
+        _ => unreachable!("a repair is not answered by kind {kind}"),
+    })
 }
 
 fn name(line: Line) -> usize {
@@ -113,14 +126,18 @@ pub fn read(kind: Kind, p: usize, l: usize, tile: &[u8], text: &mut [u8]) -> Res
 
 /// Repairs one hurt column, or one hurt row, and names what was hurt; nothing where the tile is good.
 pub fn repair(kind: Kind, p: usize, l: usize, tile: &mut [u8]) -> Result<Option<Hurt>, Refused> {
-    let answer = unsafe { c::cf_repair(kind as usize, p, l, tile.as_mut_ptr(), tile.len()) };
-    taken(answer, 0).map(|(kind, first, second)| match kind {
-        0 => None,
-        1 => Some(Hurt::Line(Line::Column(first as u8))),
-        2 => Some(Hurt::Line(Line::Row(first as u8))),
-        3 => Some(Hurt::Cell { row: first as u8, column: second as u8 }),
-        _ => unreachable!("cf_repair does not answer kind {kind}"),
-    })
+    hurt(unsafe { c::cf_repair(kind as usize, p, l, tile.as_mut_ptr(), tile.len()) })
+}
+
+/// Names what is hurt in a scan, as `repair` would, and changes nothing.
+pub fn inspect(kind: Kind, p: usize, l: usize, scan: &[u8]) -> Result<Option<Hurt>, Refused> {
+    hurt(unsafe { c::cf_inspect(kind as usize, p, l, scan.as_ptr(), scan.len()) })
+}
+
+/// Reads the text of the tile that `repair` would make of a scan, and names what is hurt in the scan, which stays as it is. Where this is
+/// refused the text stays as it was.
+pub fn recover(kind: Kind, p: usize, l: usize, scan: &[u8], text: &mut [u8]) -> Result<Option<Hurt>, Refused> {
+    hurt(unsafe { c::cf_recover(kind as usize, p, l, scan.as_ptr(), scan.len(), text.as_mut_ptr(), text.len()) })
 }
 
 /// Fills one or two lost lines; one line is named twice.

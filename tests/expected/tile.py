@@ -2,7 +2,7 @@
 
 A tile is the list of its bytes, row by row (SPEC 3.1). That all 2p sums are one byte is a set of 2p linear equations: bytes are added by
 XOR, bit by bit, and so the equations are over GF(2). The unknowns are the bytes of the flagged cells, which are those on the lines to
-fill, and the one byte that all sums are. Gaussian elimination solves them (SPEC 5.6). It tells whether there is no filling, one, or
+fill, and the one byte that all sums are. Gaussian elimination solves them (SPEC 5.8). It tells whether there is no filling, one, or
 several, which is where an unknown is not settled. What SPEC 4.5 and 5.4 say of that is asserted each time. Writing is filling the two check
 columns, and repair is filling every line in turn, comparing what comes out, and counting the bytes that came out otherwise.
 
@@ -61,7 +61,7 @@ def places(p, line):
 
 @lru_cache(maxsize=600)  # more than the largest tile has lines
 def coefficients(p, l, lines):
-    """SPEC 5.6: the left sides of the 2p equations, those of slope 1 and then those of slope l, as bits: bit 0 for the common byte, and one
+    """SPEC 5.8: the left sides of the 2p equations, those of slope 1 and then those of slope l, as bits: bit 0 for the common byte, and one
     bit for each flagged cell. With each the flagged places on its line; and all flagged places in the order of their bits."""
     flagged = sorted({k for line in lines for k in places(p, line)})
     equations = [(1, []) for _ in range(2 * p)]

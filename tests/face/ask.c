@@ -304,6 +304,28 @@ uint64_t ask_judge(size_t p, size_t l, const uint8_t *scan, size_t scan_len, con
     return compare(&question);
 }
 
+uint64_t ask_inspect(size_t kind, size_t p, size_t l, const uint8_t *scan, size_t scan_len)
+{
+    struct question question;
+    put_of_tile(&question, "cf_inspect, kind %zu, p %zu, l %zu", kind, p, l, 0, 0);
+    struct lent *scans = for_reading(&question, "scan", scan, scan_len);
+    for (size_t side = 0; side < question.sides; side++)
+        question.word[side] = (side == PEER ? peer_inspect : cf_inspect)(question.kind[side], p, l, scans[side].bytes, scan_len);
+    return compare(&question);
+}
+
+uint64_t ask_recover(size_t kind, size_t p, size_t l, const uint8_t *scan, size_t scan_len, uint8_t *text, size_t text_len)
+{
+    struct question question;
+    put_of_tile(&question, "cf_recover, kind %zu, p %zu, l %zu", kind, p, l, 0, 0);
+    struct lent *scans = for_reading(&question, "scan", scan, scan_len);
+    struct lent *texts = for_writing(&question, "text", text, text_len);
+    for (size_t side = 0; side < question.sides; side++)
+        question.word[side] =
+            (side == PEER ? peer_recover : cf_recover)(question.kind[side], p, l, scans[side].bytes, scan_len, texts[side].bytes, text_len);
+    return compare(&question);
+}
+
 uint64_t ask_correct(size_t kind, size_t p, size_t l, uint8_t *tile, size_t tile_len, const uint8_t *sheet, size_t sheet_len,
                      uint64_t *count_or_offset)
 {

@@ -28,6 +28,12 @@ uint64_t ask_repair(size_t kind, size_t p, size_t l, uint8_t *tile, size_t tile_
 uint64_t ask_fill(size_t kind, size_t p, size_t l, uint8_t *tile, size_t tile_len, size_t first, size_t second);
 uint64_t ask_judge(size_t p, size_t l, const uint8_t *scan, size_t scan_len, const uint8_t *restored, size_t restored_len, size_t first,
                    size_t second);
+uint64_t ask_inspect(size_t kind, size_t p, size_t l, const uint8_t *scan, size_t scan_len);
+
+/* What the text holds before has to show whether a refused call leaves it: it should be marked (made.h), or hold some other byte that no
+ * call would put there. */
+uint64_t ask_recover(size_t kind, size_t p, size_t l, const uint8_t *scan, size_t scan_len, uint8_t *text, size_t text_len);
+
 uint64_t ask_correct(size_t kind, size_t p, size_t l, uint8_t *tile, size_t tile_len, const uint8_t *sheet, size_t sheet_len,
                      uint64_t *count_or_offset);
 uint64_t ask_next(const uint8_t *reel, size_t reel_len, size_t at, struct found *found);

@@ -11,6 +11,8 @@ void cases_repair(void);
 void cases_fill(void);
 void cases_judge(void);
 void cases_judge_faults(void);
+void cases_recover(void);
+void cases_recover_faults(void);
 void cases_doubtful(void);
 void cases_margin(void);
 void cases_sheet(void);

@@ -9,8 +9,8 @@
 #include "made.h"
 #include "sheets.h"
 
-/* A tile and a text may be lent twice as long as the longest. */
-static uint8_t tile[2 * LARGEST_TILE], text[2 * LARGEST_TILE];
+/* A tile and a text may be lent twice as long as the longest. What is recovered has a text of its own. */
+static uint8_t tile[2 * LARGEST_TILE], text[2 * LARGEST_TILE], recovered[2 * LARGEST_TILE];
 static struct chance chance;
 
 /* What a call is told. */
@@ -99,7 +99,14 @@ static void put_faults(struct told *told, unsigned faults)
         told->p = wrong_size();
 }
 
-/* Once it is written, the tile is judged with itself as the scan. What else judge may be told has cases of its own. */
+static void ask_recover_marked(const struct told *told)
+{
+    mark_text(recovered, told->text_len);
+    ask_recover(told->kind, told->p, told->l, tile, told->tile_len, recovered, told->text_len);
+}
+
+/* Once it is written, the tile is judged with itself as the scan; and before it is repaired, it is inspected and recovered. What else these
+ * may be told has cases of its own. */
 static void ask_all(const struct told *told)
 {
     static struct sheet sheet;
@@ -110,6 +117,8 @@ static void ask_all(const struct told *told)
     ask_read(told->kind, told->p, told->l, tile, told->tile_len, text, told->text_len);
     ask_fill(told->kind, told->p, told->l, tile, told->tile_len, told->first, told->second);
     ask_correct(told->kind, told->p, told->l, tile, told->tile_len, sheet.bytes, sheet.length, &count);
+    ask_inspect(told->kind, told->p, told->l, tile, told->tile_len);
+    ask_recover_marked(told);
     ask_repair(told->kind, told->p, told->l, tile, told->tile_len);
 }
 
@@ -169,6 +178,7 @@ static void each_length_with_each(size_t p)
         for (told.text_len = 0; told.text_len <= text_length(p) + 1; told.text_len++) {
             ask_write(told.kind, told.p, told.l, text, told.text_len, tile, told.tile_len);
             ask_read(told.kind, told.p, told.l, tile, told.tile_len, text, told.text_len);
+            ask_recover_marked(&told);
         }
     }
 }

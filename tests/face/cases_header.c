@@ -28,13 +28,18 @@ static void take_words_apart(void)
     }
 }
 
-/* A cell is answered with its row first and its column second (SPEC 11.1). */
+/* A cell is answered with its row first and its column second (SPEC 11.1), whichever call answers it. */
 static void take_a_cell_apart(void)
 {
-    uint8_t tile[16] = {[1 * 4 + 2] = 0x41};
-    uint64_t said = ask_repair(CF_NEW, 5, 2, tile, 16);
-    hold(cf_kind(said) == CF_KIND_CELL && cf_first(said) == 1 && cf_second(said) == 2, "cell (1, 2) is taken apart");
-    hold(cf_refusal(said) == 0, "a cell is no refusal");
+    uint8_t tile[16] = {[1 * 4 + 2] = 0x41}, text[8] = {9, 9, 9, 9, 9, 9, 9, 9};
+    uint64_t said[3];
+    said[0] = ask_inspect(CF_NEW, 5, 2, tile, 16);
+    said[1] = ask_recover(CF_NEW, 5, 2, tile, 16, text, 8);
+    said[2] = ask_repair(CF_NEW, 5, 2, tile, 16);
+    for (size_t k = 0; k < 3; k++) {
+        hold(cf_kind(said[k]) == CF_KIND_CELL && cf_first(said[k]) == 1 && cf_second(said[k]) == 2, "cell (1, 2) is taken apart");
+        hold(cf_refusal(said[k]) == 0, "a cell is no refusal");
+    }
 }
 
 /* Kinds of an answer have the numbers of SPEC 11.1, refusals those of SPEC 9.1, and kinds of a tile those of SPEC 11.5. */

@@ -38,21 +38,8 @@ static void make_state(size_t p, struct pair hurt, enum state state)
         scan[place] ^= chance_change(&chance);
 }
 
-/* The n-th number that is no size; slope that no tile of size p has, of either kind, l being one that is allowed; length that no tile has;
- * and line that it does not have. All far numbers are among them. */
-enum { WRONG_SIZES = 14 + FAR_NUMBERS, WRONG_SLOPES = 8 + FAR_NUMBERS, WRONG_LENGTHS = 7, WRONG_LINES = 11 + FAR_NUMBERS };
-
-static size_t wrong_size(size_t p, size_t n)
-{
-    const size_t sizes[WRONG_SIZES - FAR_NUMBERS] = {0, 1, 2, 3, 4, 6, 9, 25, p - 1, p + 1, 256, 258, 263, 289};
-    return n < FAR_NUMBERS ? far_numbers[n] : sizes[n - FAR_NUMBERS];
-}
-
-static size_t wrong_slope(size_t p, size_t l, size_t n)
-{
-    const size_t slopes[WRONG_SLOPES - FAR_NUMBERS] = {0, 1, p - 1, p, p + 1, p + l, 2 * p + l, (SIZE_MAX / p - 1) * p + l};
-    return n < FAR_NUMBERS ? far_numbers[n] : slopes[n - FAR_NUMBERS];
-}
+/* The n-th length that no tile of size p has; and line that it does not have, all far numbers among them. */
+enum { WRONG_LENGTHS = 7, WRONG_LINES = 11 + FAR_NUMBERS };
 
 static size_t wrong_length(size_t p, size_t n)
 {
@@ -139,7 +126,7 @@ static void wrong_slopes(size_t kind, size_t p, size_t l)
     make_tile(&chance, p, l, good);
     for (size_t n = 0; n < WRONG_SLOPES; n++) {
         struct pair pair = some_pair(&chance, p, n % PAIR_KINDS);
-        struct told told = told_of(p, wrong_slope(p, l, n), pair.first, pair.second);
+        struct told told = told_of(p, nth_wrong_slope(p, l, n), pair.first, pair.second);
         make_state(p, pair, (enum state)(n % STATES));
         judge(told, scan, restored, BAD_SLOPE, "a wrong slope");
         told.restored_len = wrong_length(p, n % WRONG_LENGTHS);
@@ -179,9 +166,9 @@ static void wrong_sizes(size_t kind, size_t p, size_t l)
         struct pair pair = some_pair(&chance, p, n % PAIR_KINDS);
         struct told told = told_of(p, l, pair.first, pair.second);
         make_state(p, pair, (enum state)(n % STATES));
-        told.p = wrong_size(p, n);
+        told.p = nth_wrong_size(p, n);
         judge(told, scan, restored, BAD_SIZE, "a wrong size");
-        told.l = wrong_slope(p, l, n % WRONG_SLOPES);
+        told.l = nth_wrong_slope(p, l, n % WRONG_SLOPES);
         judge(told, scan, restored, BAD_SIZE, "a wrong size and a wrong slope");
         told.scan_len = wrong_length(p, n % WRONG_LENGTHS);
         judge(told, scan, restored, BAD_SIZE, "a wrong size, a wrong slope and a wrong length");
@@ -228,7 +215,7 @@ static enum state state_of(unsigned faults)
 static void put_faults(struct told *told, unsigned faults)
 {
     if (faults & WRONG_SLOPE)
-        told->l = wrong_slope(told->p, told->l, chance_below(&chance, WRONG_SLOPES));
+        told->l = nth_wrong_slope(told->p, told->l, chance_below(&chance, WRONG_SLOPES));
     if (faults & WRONG_SCAN)
         told->scan_len = wrong_length(told->p, chance_below(&chance, WRONG_LENGTHS));
     if (faults & WRONG_RESTORED)
@@ -238,7 +225,7 @@ static void put_faults(struct told *told, unsigned faults)
     if (faults & WRONG_SECOND)
         told->second = wrong_line(told->p, chance_below(&chance, WRONG_LINES));
     if (faults & WRONG_SIZE)
-        told->p = wrong_size(told->p, chance_below(&chance, WRONG_SIZES));
+        told->p = nth_wrong_size(told->p, chance_below(&chance, WRONG_SIZES));
 }
 
 static void judge_with_faults(size_t p, size_t l, unsigned faults)

@@ -11,7 +11,7 @@
 /* Sizes and slopes are tried from 0 on up to here. */
 enum { LAST_TRIED = 300, LONGEST_TILE = (LAST_TRIED - 1) * (LAST_TRIED - 1) };
 
-static uint8_t tile[LONGEST_TILE], text[LONGEST_TILE];
+static uint8_t tile[LONGEST_TILE], text[LONGEST_TILE], recovered[LONGEST_TILE];
 
 /* All tile calls, with lengths that are right if p is a size at all. Once it is written, the tile is judged with itself as the scan. */
 static void ask_tile_calls(size_t kind, size_t p, size_t l, size_t tile_len, size_t text_len)
@@ -21,6 +21,9 @@ static void ask_tile_calls(size_t kind, size_t p, size_t l, size_t tile_len, siz
     ask_write(kind, p, l, text, text_len, tile, tile_len);
     ask_judge(p, l, tile, tile_len, tile, tile_len, row_name(1), column_name(2));
     ask_read(kind, p, l, tile, tile_len, text, text_len);
+    ask_inspect(kind, p, l, tile, tile_len);
+    mark_text(recovered, text_len);
+    ask_recover(kind, p, l, tile, tile_len, recovered, text_len);
     ask_repair(kind, p, l, tile, tile_len);
     ask_fill(kind, p, l, tile, tile_len, row_name(1), column_name(2));
     ask_correct(kind, p, l, tile, tile_len, sheet, sizeof sheet, &count);

@@ -198,6 +198,45 @@ static void judged(void)
     }
 }
 
+/* Scans 25 to 31, at slope 2: inspect and recover have to give this answer, and a text that held 9 in each byte has to hold this then. */
+static void hold_recovered(unsigned number, size_t kind, size_t p, const uint8_t *scan, uint64_t asked, const uint8_t *left)
+{
+    uint8_t text[OLD_TEXT];
+    memset(text, 9, OLD_TEXT);
+    uint64_t said = ask_inspect(kind, p, 2, scan, cf_tile_len(p));
+    hold(said == asked, "worked scan %u: the peer inspects otherwise than SPEC 10", number);
+    said = ask_recover(kind, p, 2, scan, cf_tile_len(p), text, cf_text_len(p));
+    hold(said == asked && memcmp(text, left, cf_text_len(p)) == 0, "worked scan %u: the peer recovers otherwise than SPEC 10", number);
+}
+
+/* 25 to 30: the tiles of 2, 4, 5, 6, 8 and 7. */
+static void recovered(void)
+{
+    const struct {
+        unsigned number;
+        uint64_t answer;
+        uint8_t scan[TILE], text[TEXT];
+    } scans[] = {
+        {25, answer(CF_KIND_DONE, 0), {0, 1, 1, 1, 1, 0, 0, 1, 0, 1, 1, 0, 1, 1, 1, 1}, {0, 1, 1, 0, 0, 1, 1, 1}},
+        {26, cell(2, 3), {[2 * 4 + 3] = 1}, {0}},
+        {27, answer(CF_KIND_COLUMN, 0), {[0] = 1, [1 * 4] = 1}, {0}},
+        {28, answer(CF_KIND_ROW, 0), {[0] = 1, [1] = 1}, {0}},
+        {29, answer(CF_KIND_COLUMN, 3), {[0] = 1, [1 * 4 + 1] = 1}, {1, 0, 0, 1, 0, 0, 0, 0}},
+        {30, answer(CF_KIND_REFUSED, CF_DAMAGED), {[0] = 1, [1 * 4 + 2] = 1}, {9, 9, 9, 9, 9, 9, 9, 9}},
+    };
+    for (size_t k = 0; k < sizeof scans / sizeof scans[0]; k++)
+        hold_recovered(scans[k].number, CF_NEW, 5, scans[k].scan, scans[k].answer, scans[k].text);
+}
+
+/* 31: the tile of 14, an old one. */
+static void old_recovered(void)
+{
+    static const uint8_t scan[OLD_TILE] = {[1 * 6] = 1, [2 * 6] = 1, [4 * 6] = 1};
+    uint8_t nines[OLD_TEXT];
+    memset(nines, 9, OLD_TEXT);
+    hold_recovered(31, CF_OLD, 7, scan, answer(CF_KIND_REFUSED, CF_DOUBTFUL), nines);
+}
+
 /* The whole reel: two tiles and one byte more. */
 static const uint8_t reel[53] = {[0] = 0xD5, [1] = 0x5D, [3] = 5, [5] = 2, [9] = 7, [26] = 0xD5, [27] = 0x5D,
                                  [29] = 5,   [31] = 2,   [35] = 8, [47] = 0x41};
@@ -280,6 +319,8 @@ void cases_worked(void)
     old_repaired();
     old_read();
     judged();
+    recovered();
+    old_recovered();
     walked();
     reel_repaired();
     house_slopes();

@@ -1,5 +1,5 @@
-/* Calls the library and the peer on the same input, some hundred thousand times, and compares. Prints each difference, up to twenty, and
- * a closing line. The exit status is 0 only where nothing differed, and enough was asked. */
+/* Calls the library and the peer on the same input, about a million times, and compares. Prints each difference, up to twenty, and a
+ * closing line. The exit status is 0 only where nothing differed, and enough was asked. */
 
 #include <stddef.h>
 
@@ -20,6 +20,8 @@ int main(void)
         {"fill", cases_fill},
         {"judging restored tiles", cases_judge},
         {"judging, and what it is told", cases_judge_faults},
+        {"inspecting and recovering scans", cases_recover},
+        {"inspecting and recovering, and what they are told", cases_recover_faults},
         {"old tiles that are doubtful", cases_doubtful},
         {"the margin", cases_margin},
         {"correction sheets", cases_sheet},

@@ -29,6 +29,18 @@ const size_t far_numbers[FAR_NUMBERS] = {
     65535,
 };
 
+size_t nth_wrong_size(size_t p, size_t n)
+{
+    const size_t sizes[WRONG_SIZES - FAR_NUMBERS] = {0, 1, 2, 3, 4, 6, 9, 25, p - 1, p + 1, 256, 258, 263, 289};
+    return n < FAR_NUMBERS ? far_numbers[n] : sizes[n - FAR_NUMBERS];
+}
+
+size_t nth_wrong_slope(size_t p, size_t l, size_t n)
+{
+    const size_t slopes[WRONG_SLOPES - FAR_NUMBERS] = {0, 1, p - 1, p, p + 1, p + l, 2 * p + l, (SIZE_MAX / p - 1) * p + l};
+    return n < FAR_NUMBERS ? far_numbers[n] : slopes[n - FAR_NUMBERS];
+}
+
 size_t size_above(size_t p)
 {
     while (p++ < LARGEST_SIZE)
@@ -118,6 +130,14 @@ void make_text(struct chance *chance, size_t p, enum text_kind filled_with, uint
         chance_bytes(chance, text, text_length(p));
     else
         memset(text, byte_of[filled_with], text_length(p));
+}
+
+void mark_text(uint8_t *text, size_t length)
+{
+    static uint8_t first = 0;
+    first++;
+    for (size_t k = 0; k < length; k++)
+        text[k] = (uint8_t)(first + 7 * k);
 }
 
 void make_tile(struct chance *chance, size_t p, size_t l, uint8_t *tile)

@@ -16,6 +16,12 @@ enum { SMALL_SIZE = 31 };
 enum { FAR_NUMBERS = 20 };
 extern const size_t far_numbers[FAR_NUMBERS];
 
+/* The n-th number that is no size, p being one; and the n-th slope that no tile of size p has, of either kind, l being one that it has. All
+ * far numbers are among them. */
+enum { WRONG_SIZES = 14 + FAR_NUMBERS, WRONG_SLOPES = 8 + FAR_NUMBERS };
+size_t nth_wrong_size(size_t p, size_t n);
+size_t nth_wrong_slope(size_t p, size_t l, size_t n);
+
 /* The smallest size above p, or 0 where there is none. */
 size_t size_above(size_t p);
 
@@ -47,6 +53,10 @@ void for_some_old_sizes(struct chance *chance, with_tile with);
 enum text_kind { TEXT_OF_ZEROS, TEXT_OF_FF, TEXT_OF_ONES, TEXT_OF_ANY, TEXT_KINDS };
 
 void make_text(struct chance *chance, size_t p, enum text_kind filled_with, uint8_t *text);
+
+/* Marks a text that is lent to be recovered, so that it shows whether it is left: no two neighbours are alike, nor are two texts that are
+ * marked one after the other. */
+void mark_text(uint8_t *text, size_t length);
 
 /* The good tile of a text of any bytes. */
 void make_tile(struct chance *chance, size_t p, size_t l, uint8_t *tile);

@@ -1,8 +1,8 @@
-/* The peer: nine calls of counterfrost.h once more, under names of their own, with the same parameters and the same answers.
+/* The peer: eleven calls of counterfrost.h once more, under names of their own, with the same parameters and the same answers.
  *
  * What they do is written from docs/SPEC.md and docs/FORMATS.md alone; a comment "SPEC 4.3" names the section. Nothing is found in the way
  * in which the library finds it. That a tile is good is 2p equations, one for each diagonal, and the peer writes these down and solves them
- * by elimination (SPEC 5.6), which also tells whether they have one solution or several. It keeps no table: a size is found by trial
+ * by elimination (SPEC 5.8), which also tells whether they have one solution or several. It keeps no table: a size is found by trial
  * division, an allowed slope by marking its powers. */
 
 #ifndef PEER_H
@@ -15,13 +15,15 @@
 uint64_t peer_house_slope(size_t p);
 uint64_t peer_takes(size_t kind, size_t p, size_t l);
 
-/* SPEC 5.1 to 5.5, and 11.3 for the lines that are named. */
+/* SPEC 5.1 to 5.7, and 11.3 for the lines that are named. */
 uint64_t peer_write(size_t kind, size_t p, size_t l, const uint8_t *text, size_t text_len, uint8_t *tile, size_t tile_len);
 uint64_t peer_read(size_t kind, size_t p, size_t l, const uint8_t *tile, size_t tile_len, uint8_t *text, size_t text_len);
 uint64_t peer_repair(size_t kind, size_t p, size_t l, uint8_t *tile, size_t tile_len);
 uint64_t peer_fill(size_t kind, size_t p, size_t l, uint8_t *tile, size_t tile_len, size_t first, size_t second);
 uint64_t peer_judge(size_t p, size_t l, const uint8_t *scan, size_t scan_len, const uint8_t *restored, size_t restored_len, size_t first,
                     size_t second);
+uint64_t peer_inspect(size_t kind, size_t p, size_t l, const uint8_t *scan, size_t scan_len);
+uint64_t peer_recover(size_t kind, size_t p, size_t l, const uint8_t *scan, size_t scan_len, uint8_t *text, size_t text_len);
 
 /* SPEC 6, and 11.2 for the number. */
 uint64_t peer_correct(size_t kind, size_t p, size_t l, uint8_t *tile, size_t tile_len, const uint8_t *sheet, size_t sheet_len,

@@ -1,4 +1,4 @@
-/* Elimination over bits, from SPEC 5.6: see peer_system.h. */
+/* Elimination over bits, from SPEC 5.8: see peer_system.h. */
 
 #include "peer_system.h"
 
@@ -148,7 +148,7 @@ static void take_in(struct equation *equation, size_t unknown)
     equation->coefficients[unknown / 64] |= (uint64_t)1 << unknown % 64;
 }
 
-/* The equation of a line, from SPEC 5.6: an unknown cell has a coefficient, and its byte no longer counts. The common byte is the last
+/* The equation of a line, from SPEC 5.8: an unknown cell has a coefficient, and its byte no longer counts. The common byte is the last
  * unknown, and stands in each. */
 static void write_down(const struct system *system, struct equation *equation, size_t line)
 {
@@ -248,7 +248,7 @@ static uint8_t substituted(const struct system *system, const uint8_t *byte, siz
     return value;
 }
 
-/* SPEC 5.6: with an unknown that is left free there are several solutions, and no two of them have the same cells. */
+/* SPEC 5.8: with an unknown that is left free there are several solutions, and no two of them have the same cells. */
 enum solutions solve(const struct given_tile *tile, const struct strip *strips, size_t count, uint8_t *copy)
 {
     static struct system system;

@@ -1,4 +1,4 @@
-/* The good tile of SPEC 4 as a system of linear equations, and its solution by elimination, from SPEC 5.6.
+/* The good tile of SPEC 4 as a system of linear equations, and its solution by elimination, from SPEC 5.8.
  *
  * A line is a diagonal here (SPEC 4.1), and a strip is a row or a column. Each of the 2p lines is an equation: the XOR of the line's cells
  * is the common byte, b in SPEC 4.3. The unknowns are the bytes of some cells, and the common byte; the other cells' bytes make the right

@@ -1,4 +1,4 @@
-/* The peer's tile calls, from SPEC 5. Each takes some cells as unknown, or none, and solves for them, as SPEC 5.6 has it. */
+/* The peer's tile calls, from SPEC 5. Each takes some cells as unknown, or none, and solves for them, as SPEC 5.8 has it. */
 
 #include "peer_tile.h"
 
@@ -24,7 +24,7 @@ static enum solutions fill_strips(size_t p, size_t l, uint8_t *tile, struct stri
     return solve(&given, strips, 2, tile);
 }
 
-/* The text is laid into its columns (SPEC 3.2), and the check columns are filled (SPEC 5.6). There is one such tile (SPEC 4.5). */
+/* The text is laid into its columns (SPEC 3.2), and the check columns are filled (SPEC 5.8). There is one such tile (SPEC 4.5). */
 void make_good(size_t p, size_t l, const uint8_t *text, uint8_t *tile)
 {
     struct strip first_checks = {1, p - 3}, second_checks = {1, p - 2};
@@ -52,6 +52,13 @@ uint64_t peer_write(size_t kind, size_t p, size_t l, const uint8_t *text, size_t
     return word_done();
 }
 
+/* SPEC 3.2: the text's bytes are those of the columns before the check columns, row behind row. */
+static void take_text(size_t p, const uint8_t *tile, uint8_t *text)
+{
+    for (size_t row = 0; row < p - 1; row++)
+        memcpy(&text[row * (p - 3)], &tile[row * (p - 1)], p - 3);
+}
+
 /* SPEC 5.2: 5 for a tile that is not good. */
 uint64_t peer_read(size_t kind, size_t p, size_t l, const uint8_t *tile, size_t tile_len, uint8_t *text, size_t text_len)
 {
@@ -62,8 +69,7 @@ uint64_t peer_read(size_t kind, size_t p, size_t l, const uint8_t *tile, size_t 
     give_tile(&given, p, l, tile);
     if (!is_good(&given))
         return word_refused(DAMAGED);
-    for (size_t row = 0; row < p - 1; row++)
-        memcpy(&text[row * (p - 3)], &tile[row * (p - 1)], p - 3);
+    take_text(p, tile, text);
     return word_done();
 }
 
@@ -194,4 +200,35 @@ uint64_t peer_judge(size_t p, size_t l, const uint8_t *scan, size_t scan_len, co
     if (!agree_outside(p, scan, restored, named(first), named(second)))
         return word_refused(DIFFERS_ELSEWHERE);
     return word_done();
+}
+
+/* A copy of the scan is repaired (SPEC 5.3), and what repair says is answered. The scan has its right length. */
+static uint64_t repair_copy(size_t kind, size_t p, size_t l, const uint8_t *scan, uint8_t *copy)
+{
+    memcpy(copy, scan, tile_length(p));
+    return peer_repair(kind, p, l, copy, tile_length(p));
+}
+
+/* SPEC 5.6: the copy is made for the answer alone. */
+uint64_t peer_inspect(size_t kind, size_t p, size_t l, const uint8_t *scan, size_t scan_len)
+{
+    static uint8_t copy[LARGEST_TILE];
+    enum refusal refusal = judge_tile(kind, p, l, scan_len);
+    if (refusal != ACCEPTED)
+        return word_refused(refusal);
+    return repair_copy(kind, p, l, scan, copy);
+}
+
+/* SPEC 5.7: both lengths are judged before the scan is looked into (SPEC 9.2). Where repair refuses, which is by 5 or 8 then, the text is
+ * left; otherwise it is taken out of the repaired copy. */
+uint64_t peer_recover(size_t kind, size_t p, size_t l, const uint8_t *scan, size_t scan_len, uint8_t *text, size_t text_len)
+{
+    static uint8_t copy[LARGEST_TILE];
+    enum refusal refusal = judge_text(kind, p, l, scan_len, text_len);
+    if (refusal != ACCEPTED)
+        return word_refused(refusal);
+    uint64_t said = repair_copy(kind, p, l, scan, copy);
+    if (said != word_refused(DAMAGED) && said != word_refused(DOUBTFUL))
+        take_text(p, copy, text);
+    return said;
 }

@@ -1,5 +1,5 @@
 -- One hurt line: a line's change settles the sums A and B exactly if they agree along the line, and then the change is the shifted
--- sum with the common byte taken off, the sum through the line's added zero (SPEC 5.6). Shown for columns, carried to rows by turning.
+-- sum with the common byte taken off, the sum through the line's added zero (SPEC 5.8). Shown for columns, carried to rows by turning.
 -- Assumes nothing.
 use mathlib.Core.Path.{_≡_, refl, sym, ap, ap₂, _∙_}
 use Prim.Native.Nat.{ℕ, _-_, _*_, _%_, _<_}

@@ -22,6 +22,13 @@ use Rattle.code.specs.Sums.{Padded, Same, plus, padded-plus}
 pub row-lt : (n w i j : ℕ) → i < n → j < w → i * w + j < n * w
 row-lt n w i j hi hj = omega (arith, mul-le-mul-right w hi)
 
+-- at one place stands one byte
+pub row-one : (w i j i′ j′ : ℕ) → j < w → j′ < w → i * w + j ≡ i′ * w + j′ → (i ≡ i′) × (j ≡ j′)
+row-one w i j i′ j′ h h′ e = (
+  sym (digits-div i h) ∙ ap (λ (k : ℕ). k / w) e ∙ digits-div i′ h′,
+  sym (digits-mod i h) ∙ ap (λ (k : ℕ). k % w) e ∙ digits-mod i′ h′,
+)
+
 -- and each byte within them in a row
 row-of : (n w k : ℕ) → 0 < w → k < n * w → k / w < n
 row-of n w k h l = div-lt-iff-lt-mul h .1 l
@@ -47,14 +54,6 @@ place-lt p i j hi hj = row-lt (p - 1) (p - 1) i j hi hj
 pub place-is : (p i j : ℕ) → place p i j ≡ i * (p - 1) + j
 unfolding place
 place-is p i j = refl
-
--- at one place stands one cell
-pub place-one : (p i j i′ j′ : ℕ) → j < p - 1 → j′ < p - 1 → place p i j ≡ place p i′ j′ → (i ≡ i′) × (j ≡ j′)
-unfolding place
-place-one p i j i′ j′ h h′ e = (
-  sym (digits-div i h) ∙ ap (λ (k : ℕ). k / (p - 1)) e ∙ digits-div i′ h′,
-  sym (digits-mod i h) ∙ ap (λ (k : ℕ). k % (p - 1)) e ∙ digits-mod i′ h′,
-)
 
 -- the added row and column are zeros
 pub cell-padded : (p : ℕ) (tile : List ℕ) → Padded p (cell p tile)

@@ -6,9 +6,9 @@ use Prim.Native.Nat.{ℕ, _/_, _%_}
 use native.Mathlib.Omega.{arith}
 use Rattle.word.specs.Word.{Answer, answer, word, sizeAnswer, tileAnswer}
 use Rattle.counterfrost.specs.Numbers.{sheetAnswer, reelAnswer}
-use Rattle.counterfrost.specs.Calls.{Worded, HouseWorded, TakesWorded, WriteWorded, ReadWorded, RepairWorded, FillWorded, JudgeWorded, CorrectWorded, NextWorded}
+use Rattle.counterfrost.specs.Calls.{Worded, HouseWorded, TakesWorded, WriteWorded, ReadWorded, RepairWorded, InspectWorded, RecoverWorded, FillWorded, JudgeWorded, CorrectWorded, NextWorded}
 use Rattle.word.specs.Fits.{Fits}
-use Rattle.counterfrost.specs.Fits.{house-fits, takes-fits, write-fits, read-fits, repair-fits, fill-fits, judge-fits, correct-fits, next-fits}
+use Rattle.counterfrost.specs.Fits.{house-fits, takes-fits, write-fits, read-fits, repair-fits, inspect-fits, recover-fits, fill-fits, judge-fits, correct-fits, next-fits}
 
 -- `cf_kind`, `cf_first` and `cf_second`: the word shifted by 32 bits, its next 16 bits, its last 16
 abbrev pub kindOf : ℕ → ℕ
@@ -47,6 +47,12 @@ read-tells kind t = tells (λ said h. read-fits h) t
 
 pub repair-tells : (kind : ℕ) {p l w : ℕ} {x y : List ℕ} (t : RepairWorded kind p l x w y) → Tells w (tileAnswer (t .said))
 repair-tells kind t = tells (λ said h. repair-fits h) t
+
+pub inspect-tells : (kind : ℕ) {p l w : ℕ} {x : List ℕ} (t : InspectWorded kind p l x w) → Tells w (tileAnswer (t .said))
+inspect-tells kind t = tells (λ said h. inspect-fits h) t
+
+pub recover-tells : (kind : ℕ) {p l w : ℕ} {x text y : List ℕ} (t : RecoverWorded kind p l x text w y) → Tells w (tileAnswer (t .said))
+recover-tells kind t = tells (λ said h. recover-fits h) t
 
 pub fill-tells : (kind first second : ℕ) {p l w : ℕ} {x y : List ℕ} (t : FillWorded kind p l x first second w y) → Tells w (tileAnswer (t .said))
 fill-tells kind first second t = tells (λ said h. fill-fits h) t

@@ -4,7 +4,7 @@ use mathlib.Core.Path.{_≡_}
 use mathlib.Core.List.{List}
 use Prim.Native.Nat.{ℕ}
 use Rattle.size.specs.Answer.{HouseTold, Judged}
-use Rattle.promise.specs.Calls.{WriteTold, ReadTold, RepairTold, FillTold, JudgeTold}
+use Rattle.promise.specs.Calls.{WriteTold, ReadTold, RepairTold, InspectTold, RecoverTold, FillTold, JudgeTold}
 use Rattle.sheet.specs.Calls.{CorrectTold}
 use Rattle.reel.specs.Calls.{NextTold}
 use Rattle.word.specs.Word.{Answer, word, sizeAnswer, tileAnswer, lineOf, tileKind}
@@ -24,7 +24,7 @@ HouseWorded p = Worded sizeAnswer (HouseTold p)
 abbrev pub TakesWorded : ℕ → ℕ → ℕ → ℕ → Type 0
 TakesWorded kind p l = Worded sizeAnswer (Judged (tileKind kind) p l)
 
--- SPEC 11.1 and 5.1 to 5.4: a tile call that leaves the bytes x. The kind goes in as a number, by 11.5, and so do the lines to fill, by 11.3
+-- SPEC 11.1, 5.1 to 5.4 and 5.7: a tile call that leaves the bytes x. The kind goes in as a number, by 11.5, and so do the lines to fill, by 11.3
 abbrev pub WriteWorded : ℕ → ℕ → ℕ → List ℕ → List ℕ → ℕ → List ℕ → Type 0
 WriteWorded kind p l text tile w x = Worded tileAnswer (λ s. WriteTold (tileKind kind) p l text tile s x) w
 
@@ -34,8 +34,15 @@ ReadWorded kind p l tile text w x = Worded tileAnswer (λ s. ReadTold (tileKind 
 abbrev pub RepairWorded : ℕ → ℕ → ℕ → List ℕ → ℕ → List ℕ → Type 0
 RepairWorded kind p l tile w x = Worded tileAnswer (λ s. RepairTold (tileKind kind) p l tile s x) w
 
+abbrev pub RecoverWorded : ℕ → ℕ → ℕ → List ℕ → List ℕ → ℕ → List ℕ → Type 0
+RecoverWorded kind p l scan text w x = Worded tileAnswer (λ s. RecoverTold (tileKind kind) p l scan text s x) w
+
 abbrev pub FillWorded : ℕ → ℕ → ℕ → List ℕ → ℕ → ℕ → ℕ → List ℕ → Type 0
 FillWorded kind p l tile first second w x = Worded tileAnswer (λ s. FillTold (tileKind kind) p l tile (lineOf first) (lineOf second) s x) w
+
+-- SPEC 11.1, 11.5 and 5.6: an inspection, which leaves nothing
+abbrev pub InspectWorded : ℕ → ℕ → ℕ → List ℕ → ℕ → Type 0
+InspectWorded kind p l scan = Worded tileAnswer (InspectTold (tileKind kind) p l scan)
 
 -- SPEC 11.1, 11.3 and 5.5: a judgement, which is told no kind and leaves nothing
 abbrev pub JudgeWorded : ℕ → ℕ → List ℕ → List ℕ → ℕ → ℕ → ℕ → Type 0

@@ -6,7 +6,7 @@ use Rattle.code.specs.declared.Kind.{Kind}
 use Rattle.code.specs.declared.Line.{Line}
 use Rattle.size.specs.Answer as size
 use Rattle.promise.specs.Answer as tile
-use Rattle.promise.specs.Calls.{Admitted, judged, no-length, WriteTold, ReadTold, Looked, Named, by-cell, by-column, by-row, RepairTold, Done, FillTold, JudgeTold}
+use Rattle.promise.specs.Calls.{Admitted, judged, no-length, WriteTold, ReadTold, Looked, Named, by-cell, by-column, by-row, RepairTold, InspectTold, RecoverTold, Done, FillTold, JudgeTold}
 use Rattle.promise.specs.Admit.{admitted-well}
 use Rattle.promise.specs.Name.{named-in}
 use Rattle.sheet.specs.Answer as sheet
@@ -60,6 +60,14 @@ pub repair-fits : {k : Kind} {p l : ℕ} {x y : List ℕ} {said : tile.Said} →
 repair-fits (RepairTold.refuses h) = admitted-fits h
 repair-fits (RepairTold.is-good h g) = (omega arith, omega arith)
 repair-fits (RepairTold.is-hurt h bad q) = looked-fits (λ z s. named-fits (admitted-well h .0 .high)) q
+
+pub inspect-fits : {k : Kind} {p l : ℕ} {x : List ℕ} {said : tile.Said} → InspectTold k p l x said → Fits (tileAnswer said)
+inspect-fits t = repair-fits (t .told)
+
+pub recover-fits : {k : Kind} {p l : ℕ} {x text y : List ℕ} {said : tile.Said} → RecoverTold k p l x text said y → Fits (tileAnswer said)
+recover-fits (RecoverTold.refuses h) = admitted-fits h
+recover-fits (RecoverTold.unrepaired h t) = inspect-fits t
+recover-fits (RecoverTold.recovers h d t) = repair-fits t
 
 pub fill-fits : {k : Kind} {p l : ℕ} {x y : List ℕ} {a b : Line} {said : tile.Said} → FillTold k p l x a b said y → Fits (tileAnswer said)
 fill-fits (FillTold.refuses h) = admitted-fits h

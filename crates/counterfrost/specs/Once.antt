@@ -3,12 +3,12 @@ use mathlib.Core.Path.{_≡_, sym, ap, _∙_}
 use mathlib.Core.List.{List}
 use Prim.Native.Nat.{ℕ}
 use Rattle.size.specs.Once.{house-told-once, judged-told-once}
-use Rattle.promise.specs.Once.{write-told-once, read-told-once, repair-told-once, fill-told-once, judge-told-once}
+use Rattle.promise.specs.Once.{write-told-once, read-told-once, repair-told-once, inspect-told-once, recover-told-once, fill-told-once, judge-told-once}
 use Rattle.sheet.specs.Once.{correct-told-once}
 use Rattle.reel.specs.Once.{next-told-once}
 use Rattle.word.specs.Word.{Answer, word, lineOf, tileKind}
 use Rattle.counterfrost.specs.Numbers.{countOrOffset, tileKindNumber, tileNumber, tileSize, tileSlope, offset}
-use Rattle.counterfrost.specs.Calls.{Worded, HouseWorded, TakesWorded, WriteWorded, ReadWorded, RepairWorded, FillWorded, JudgeWorded, CorrectWorded, NextWorded}
+use Rattle.counterfrost.specs.Calls.{Worded, HouseWorded, TakesWorded, WriteWorded, ReadWorded, RepairWorded, InspectWorded, RecoverWorded, FillWorded, JudgeWorded, CorrectWorded, NextWorded}
 
 -- where one thing is said, it has one word
 one-word : {Said : Type 0} {answerOf : Said → Answer} {Right Right′ : Said → Type 0} {v w : ℕ} (t : Worded answerOf Right v)
@@ -35,6 +35,14 @@ pub repair-word-once : (kind p l : ℕ) (tile : List ℕ) (v w : ℕ) (x y : Lis
     → (v ≡ w) × (x ≡ y)
 repair-word-once kind p l tile v w x y t u =
     let e = repair-told-once (tileKind kind) p l tile (t .said) (u .said) x y (t .right) (u .right) in (one-word t u (e .0), e .1)
+
+pub inspect-word-once : (kind p l : ℕ) (scan : List ℕ) (v w : ℕ) → InspectWorded kind p l scan v → InspectWorded kind p l scan w → v ≡ w
+inspect-word-once kind p l scan v w t u = one-word t u (inspect-told-once (tileKind kind) p l scan (t .said) (u .said) (t .right) (u .right))
+
+pub recover-word-once : (kind p l : ℕ) (scan text : List ℕ) (v w : ℕ) (x y : List ℕ) → RecoverWorded kind p l scan text v x → RecoverWorded kind p l scan text w y
+    → (v ≡ w) × (x ≡ y)
+recover-word-once kind p l scan text v w x y t u =
+    let e = recover-told-once (tileKind kind) p l scan text (t .said) (u .said) x y (t .right) (u .right) in (one-word t u (e .0), e .1)
 
 pub fill-word-once : (kind p l : ℕ) (tile : List ℕ) (first second v w : ℕ) (x y : List ℕ) → FillWorded kind p l tile first second v x
     → FillWorded kind p l tile first second w y → (v ≡ w) × (x ≡ y)

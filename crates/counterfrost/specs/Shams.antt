@@ -21,7 +21,8 @@ use Rattle.promise.specs.Calls.{WriteTold, Explains, RepairTold}
 use Rattle.promise.specs.Explain.{explains-fills, explains-on}
 use Rattle.promise.specs.Worked as tile-case
 use Rattle.promise.specs.WorkedJudged.{judgement}
-use Rattle.promise.specs.Worked.{zeros, text-1, tile-1, tile-4, tile-6, tile-8, repaired-8, tile-9, filled-9, copied-1}
+use Rattle.promise.specs.WorkedRecovered.{nines, zeros-text, recovery-claimed}
+use Rattle.promise.specs.Worked.{zeros, text-1, tile-1, tile-4, tile-5, tile-6, tile-7, tile-8, repaired-8, tile-9, filled-9, copied-1}
 use Rattle.sheet.specs.Answer as sheet
 use Rattle.sheet.specs.Calls as sheet-calls
 use Rattle.sheet.specs.Worked as sheet-case
@@ -31,8 +32,8 @@ use Rattle.reel.specs.Worked as reel-case
 use Rattle.reel.specs.Worked.{whole-case, old-case}
 use Rattle.word.specs.Version.{version}
 use Rattle.word.specs.Word.{answer, word, done, refusal, lineOf, tileKind}
-use Rattle.counterfrost.specs.Calls.{HouseWorded, TakesWorded, WriteWorded, ReadWorded, RepairWorded, FillWorded, JudgeWorded, CorrectWorded, NextWorded}
-use Rattle.counterfrost.specs.Once.{house-word-once, takes-word-once, write-word-once, read-word-once, repair-word-once, fill-word-once, judge-word-once, correct-word-once, next-word-once}
+use Rattle.counterfrost.specs.Calls.{HouseWorded, TakesWorded, WriteWorded, ReadWorded, RepairWorded, InspectWorded, RecoverWorded, FillWorded, JudgeWorded, CorrectWorded, NextWorded}
+use Rattle.counterfrost.specs.Once.{house-word-once, takes-word-once, write-word-once, read-word-once, repair-word-once, inspect-word-once, recover-word-once, fill-word-once, judge-word-once, correct-word-once, next-word-once}
 
 -- a good tile was written, and a tile that is repaired by a row is explained by it
 written-good : {k : Kind} {p l : ℕ} {text x y : List ℕ} → WriteTold k p l text x tile.done y → Good p l y
@@ -82,7 +83,7 @@ takes-slope-first kind t = omega (arith, takes-word-once kind 4 0 (word (refusal
 -- ---- the version
 
 -- a library that says the version before this one, and one that says none
-pub version-stale : _≡_ {A = ℕ} 400 version → ⊥
+pub version-stale : _≡_ {A = ℕ} 500 version → ⊥
 version-stale e = omega (arith, e)
 
 pub version-missing : _≡_ {A = ℕ} 0 version → ⊥
@@ -164,6 +165,42 @@ cell-told-column kind x t = omega (arith, repair-word-once kind 5 2 tile-4 (word
 -- one that tells the cell's column first
 pub cell-exchanged : (kind : ℕ) (x : List ℕ) → RepairWorded kind 5 2 tile-4 (word (answer 3 3 2)) x → ⊥
 cell-exchanged kind x t = omega (arith, repair-word-once kind 5 2 tile-4 (word (answer 3 2 3)) (word (answer 3 3 2)) zeros x (mended-4 kind) t .0)
+
+-- ---- inspect and recover
+
+inspected-26 : (kind : ℕ) → InspectWorded kind 5 2 tile-4 (word (answer 3 2 3))
+inspected-26 kind = record { said = tile.cell 2 3; right = recovery-claimed 26 (tileKind kind) .1; is = refl }
+
+-- an inspector that takes the slope for the size
+pub inspect-exchanged : (kind : ℕ) → InspectWorded kind 5 2 tile-4 (word (refusal 1)) → ⊥
+inspect-exchanged kind t = omega (arith, inspect-word-once kind 5 2 tile-4 (word (answer 3 2 3)) (word (refusal 1)) (inspected-26 kind) t)
+
+-- one that says done, and no more, of every tile that can be repaired
+pub inspect-done : (kind : ℕ) → InspectWorded kind 5 2 tile-4 (word done) → ⊥
+inspect-done kind t = omega (arith, inspect-word-once kind 5 2 tile-4 (word (answer 3 2 3)) (word done) (inspected-26 kind) t)
+
+recovered-27 : (kind : ℕ) → RecoverWorded kind 5 2 tile-5 nines (word (answer 1 0 0)) zeros-text
+recovered-27 kind = record { said = tile.column 0; right = recovery-claimed 27 (tileKind kind) .0 .0; is = refl }
+
+-- a recovery that takes the slope for the size
+pub recover-exchanged : (kind : ℕ) (x : List ℕ) → RecoverWorded kind 5 2 tile-5 nines (word (refusal 1)) x → ⊥
+recover-exchanged kind x t = omega (arith, recover-word-once kind 5 2 tile-5 nines (word (answer 1 0 0)) (word (refusal 1)) zeros-text x (recovered-27 kind) t .0)
+
+-- one that says done, and no more, where it repaired
+pub recover-done : (kind : ℕ) (x : List ℕ) → RecoverWorded kind 5 2 tile-5 nines (word done) x → ⊥
+recover-done kind x t = omega (arith, recover-word-once kind 5 2 tile-5 nines (word (answer 1 0 0)) (word done) zeros-text x (recovered-27 kind) t .0)
+
+-- one that leaves the text as it was, whatever it says
+pub recover-nothing : (kind w : ℕ) → RecoverWorded kind 5 2 tile-5 nines w nines → ⊥
+recover-nothing kind w t =
+    let e = recover-word-once kind 5 2 tile-5 nines (word (answer 1 0 0)) w zeros-text nines (recovered-27 kind) t .1 in let z : _≡_ {A = ℕ} 0 9 = cc in omega arith
+
+unrecovered-30 : (kind : ℕ) → RecoverWorded kind 5 2 tile-7 nines (word (refusal 5)) nines
+unrecovered-30 kind = record { said = tile.refused 5; right = recovery-claimed 30 (tileKind kind) .0 .0; is = refl }
+
+-- one that refuses with the kind 0
+pub recover-refusal-done : (kind : ℕ) (x : List ℕ) → RecoverWorded kind 5 2 tile-7 nines (word (answer 0 5 0)) x → ⊥
+recover-refusal-done kind x t = omega (arith, recover-word-once kind 5 2 tile-7 nines (word (refusal 5)) (word (answer 0 5 0)) nines x (unrecovered-30 kind) t .0)
 
 -- ---- fill
 

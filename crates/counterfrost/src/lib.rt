@@ -10,7 +10,7 @@ ghost use Rattle.promise.specs.Answer.{repairSaid};
 ghost use Rattle.word.specs.Word as spec;
 ghost use Rattle.word.specs.Fits.{Fits};
 ghost use Rattle.word.specs.Version.{version};
-ghost use Rattle.counterfrost.specs.Calls.{HouseWorded, TakesWorded, WriteWorded, ReadWorded, RepairWorded, FillWorded, JudgeWorded, CorrectWorded, NextWorded};
+ghost use Rattle.counterfrost.specs.Calls.{HouseWorded, TakesWorded, WriteWorded, ReadWorded, RepairWorded, InspectWorded, RecoverWorded, FillWorded, JudgeWorded, CorrectWorded, NextWorded};
 
 // The house slope of the size p.
 #[no_mangle]
@@ -50,6 +50,22 @@ pub extern "C" fn cf_repair(kind: usize, p: usize, l: usize, tile: &mut [u8]) ->
     ensures { λ r. ⌜ RepairWorded kind p l (now (tile .entry)) r (now (tile .exit)) ⌝ }
 {
     of_repair(tile::repair(word::kind(kind), p, l, tile))
+}
+
+// Names what is hurt in a scan, and leaves it so.
+#[no_mangle]
+pub extern "C" fn cf_inspect(kind: usize, p: usize, l: usize, scan: &[u8]) -> u64
+    ensures { λ r. ⌜ InspectWorded kind p l (now (scan .entry)) r ⌝ }
+{
+    of_repair(tile::inspect(word::kind(kind), p, l, scan))
+}
+
+// Reads the text of the repaired tile, leaves the scan as it is, and names what is hurt.
+#[no_mangle]
+pub extern "C" fn cf_recover(kind: usize, p: usize, l: usize, scan: &[u8], text: &mut [u8]) -> u64
+    ensures { λ r. ⌜ RecoverWorded kind p l (now (scan .entry)) (now (text .entry)) r (now (text .exit)) ⌝ }
+{
+    of_repair(tile::recover(word::kind(kind), p, l, scan, text))
 }
 
 // Fills one or two flagged lines, each named by a number.
@@ -165,7 +181,7 @@ fn of_house(answer: House) -> u64
     }
 }
 
-// What repair answers.
+// What repair answers, and inspect, and recover.
 fn of_repair(answer: Repaired) -> u64
     requires { ⌜ Fits (spec.tileAnswer (repairSaid answer)) ⌝ }
     ensures { λ r. ⌜ r ≡ spec.word (spec.tileAnswer (repairSaid answer)) ⌝ }

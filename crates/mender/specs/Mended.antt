@@ -8,7 +8,7 @@ use native.Mathlib.Omega.{arith}
 use lib.ListN.{length}
 use Rattle.xor.specs.Xor.{_⊕_, self}
 use Rattle.code.specs.Slope.{Slope, slope-inverse}
-use Rattle.code.specs.Tile.{tileLength, cell, sum, Good, On, Differ}
+use Rattle.code.specs.Tile.{tileLength, cell, sum, Good, textOf, On, Differ}
 use Rattle.code.specs.Differ.{agree-at, index}
 use Rattle.code.specs.Distance.{Parallel}
 use Rattle.code.specs.Filling.{line-difference}
@@ -21,16 +21,16 @@ use Rattle.code.specs.declared.Line.the-variants.{Row, Column}
 use Rattle.size.specs.Answer as size
 use Rattle.walk.specs.Sums.{AllOne}
 use Rattle.walk.specs.Good.{one-good, good-one}
-use Rattle.cells.specs.Change.{Added, changed-good}
+use Rattle.cells.specs.Change.{Added, changed-good, changed, changed-added, changed-length}
 use Rattle.search.specs.Column.{Shifted}
 use Rattle.search.specs.Hurt as hurt
 use Rattle.search.specs.Hurt.{Once}
 use Rattle.search.specs.declared.hurt.Hurt.{Hurt}
 use Rattle.search.specs.declared.hurt.Hurt.the-variants as found
 use Rattle.promise.specs.Answer.{Said, clean, refused}
-use Rattle.promise.specs.Calls.{Admitted, TileLength, Looked, Explains, ByLine, RepairTold, is-good, is-hurt, Has}
-use Rattle.promise.specs.Admit.{admitted-well, slope-of}
-use Rattle.promise.specs.Name.{nth-of, in-more}
+use Rattle.promise.specs.Calls.{Admitted, TileLength, BothLengths, Looked, Explains, ByLine, Named, RepairTold, is-good, is-hurt, RecoverTold, Has}
+use Rattle.promise.specs.Admit.{admits, admitted-well, slope-of}
+use Rattle.promise.specs.Name.{nth-of, in-more, named-granted, granted-clean}
 use Rattle.promise.specs.Explain.{Unexplained, explains-fills, explains-on, same-good, explains-has, explained}
 use Rattle.promise.specs.Doubt.{line-only, both-only, reach-once, more-several}
 use Rattle.mender.specs.Called.{Called, unchanged, agrees}
@@ -78,6 +78,45 @@ once-crossing p a X x z k h added once i j d = at a (here (ℕ-discrete (index a
     at (Row r) e = e
     at (Column c) e = e
 
+-- ---- what is made of a finding
+
+-- the line that was found is one of the tile's
+abbrev pub LineIn : ℕ → Hurt → Type 0
+LineIn p found.Nothing = Unit {0}
+LineIn p (found.One a) = number a < p - 1
+LineIn p found.More = Unit {0}
+LineIn p found.Doubtful = Unit {0}
+
+pub line-in : {p l : ℕ} {A B X : ℕ → ℕ} {which : Hurt} → hurt.Found p l A B X which → LineIn p which
+line-in (hurt.good g) = tt
+line-in (hurt.one d h e w alone) = h
+line-in (hurt.more d none) = tt
+line-in (hurt.doubtful d hc hr e f two) = tt
+
+pub one-in : (p : ℕ) {which : Hurt} {a : Line} → which ≡ found.One a → LineIn p which → number a < p - 1
+one-in p e h = rw e at h
+
+-- the tile that repair leaves of x: with the change X in the line that was found, or x itself
+abbrev pub mended : ℕ → (ℕ → ℕ) → Hurt → List ℕ → List ℕ
+mended p X found.Nothing x = x
+mended p X (found.One a) x = changed p (along a X) x
+mended p X found.More x = x
+mended p X found.Doubtful x = x
+
+-- the text that recover leaves: that of the mended tile, or the one that was lent
+abbrev pub Recovered : ℕ → (ℕ → ℕ) → Hurt → List ℕ → List ℕ → List ℕ → Type 0
+Recovered p X found.Nothing scan text new = new ≡ textOf p scan
+Recovered p X (found.One a) scan text new = new ≡ textOf p (changed p (along a X) scan)
+Recovered p X found.More scan text new = new ≡ text
+Recovered p X found.Doubtful scan text new = new ≡ text
+
+-- what is said of it
+pub data Told (p : ℕ) (X : ℕ → ℕ) : Hurt → Said → Type 0 where
+  nothing : Told p X found.Nothing clean
+  line : {a : Line} {s : Said} → Called p a X s → Told p X (found.One a) s
+  more : Told p X found.More (refused 5)
+  doubtful : Told p X found.Doubtful (refused 8)
+
 -- ---- the outcome
 
 module _ (kind : Kind) (p l : ℕ) (x : List ℕ) (X : ℕ → ℕ) (a : Admitted kind p l (TileLength p x) size.well) where
@@ -94,10 +133,6 @@ module _ (kind : Kind) (p l : ℕ) (x : List ℕ) (X : ℕ → ℕ) (a : Admitte
       → (number b < p - 1 → Agree p l (sum p 1 (cell p x)) (sum p l (cell p x)) b → ⊥) → Unexplained p l x b
   disagrees b d f = line-unexplained p l b x (slope-of a) (spoiled d) f
 
-  -- the line that was found is one of the tile's
-  pub line-in : {b : Line} → Found (found.One b) → number b < p - 1
-  line-in (hurt.one d h e w alone) = h
-
   -- the tile by which a line explains x is the only one, as the search found
   sole : {b : Line} (z : List ℕ) → (AllOne p (sum p 1 (cell p x)) (sum p l (cell p x)) → ⊥) → number b < p - 1 → Added p (along b X) x z → Explains p l b x z
       → hurt.Alone p l (sum p 1 (cell p x)) (sum p l (cell p x)) X b → Only (ByLine p l x) z
@@ -106,21 +141,30 @@ module _ (kind : Kind) (p l : ℕ) (x : List ℕ) (X : ℕ → ℕ) (a : Admitte
       both-only p l x (slope-of a) b (crossing b k) (crossing-crosses b k) by (explains-on p l b (crossing b k) x z by (once-crossing p b X x z k h added once))
   sole {b} z d h added by (hurt.uncrossed f) = line-only p l x (slope-of a) b by (λ c y cross e. absurd (disagrees c d (λ q. f c q cross) y e))
 
-  -- nothing was found hurt; a line was, and its change is added, which is called s; no line explains it; or it is doubtful
-  pub ends-clean : Found found.Nothing → RepairTold kind p l x clean x
+  -- the line that was found explains x by the mended tile, and what is said names the difference
+  by-line : {b : Line} → Found (found.One b) → Explains p l b x (changed p (along b X) x)
+  by-line {b} (hurt.one d h e w alone) =
+      line-explains p l b X x (changed p (along b X) x) (slope-of a) (omega arith) (changed-length p (along b X) x) e w (changed-added p (along b X) x)
+
+  pub named : {b : Line} {s : Said} → Found (found.One b) → Called p b X s → Named p x (changed p (along b X) x) s
+  named {b} (hurt.one d h e w alone) called =
+      let z = changed p (along b X) x in
+      let good = by-line (hurt.one d h e w alone) .good in
+      called .names x z h (changed-added p (along b X) x) (λ none. spoiled d (same-good p l x z (λ i j hi hj. agree-at p x z i j hi hj (none i j)) good))
+
+  -- nothing was found hurt; a line was; no line explains it; or it is doubtful
+  ends-clean : Found found.Nothing → RepairTold kind p l x clean x
   ends-clean (hurt.good g) = is-good a (one-good p l x g)
 
-  pub ends-mended : {b : Line} {s : Said} (z : List ℕ) → Found (found.One b) → length z ≡ length x → Added p (along b X) x z → Called p b X s
-      → RepairTold kind p l x s z
-  ends-mended {b} z (hurt.one d h e w alone) size added called =
-      let by = line-explains p l b X x z (slope-of a) (omega arith) (size ∙ admitted-well a .2) e w added in
-      is-hurt a (spoiled d) (Looked.one (sole z d h added by alone)
-      (called .names x z h added (λ none. spoiled d (same-good p l x z (λ i j hi hj. agree-at p x z i j hi hj (none i j)) (by .good)))))
+  ends-mended : {b : Line} {s : Said} → Found (found.One b) → Called p b X s → RepairTold kind p l x s (changed p (along b X) x)
+  ends-mended {b} (hurt.one d h e w alone) called =
+      let f = hurt.one d h e w alone in
+      is-hurt a (spoiled d) (Looked.one (sole (changed p (along b X) x) d h (changed-added p (along b X) x) (by-line f) alone) (named f called))
 
-  pub ends-damaged : Found found.More → RepairTold kind p l x (refused 5) x
+  ends-damaged : Found found.More → RepairTold kind p l x (refused 5) x
   ends-damaged (hurt.more d none) = is-hurt a (spoiled d) (Looked.none (λ y t. disagrees (t .line) d (none (t .line)) y (t .explains)))
 
-  pub ends-doubtful : Found found.Doubtful → RepairTold kind p l x (refused 8) x
+  ends-doubtful : Found found.Doubtful → RepairTold kind p l x (refused 8) x
   ends-doubtful (hurt.doubtful {c} {r} d hc hr e f two) =
       let S = slope-of a in
       let y = explained p l (Column c) x S (omega arith) .1 e in
@@ -132,3 +176,26 @@ module _ (kind : Kind) (p l : ℕ) (x : List ℕ) (X : ℕ → ℕ) (a : Admitte
       (record { row = two .one-lt; column = hc; bytes = λ q. two .at-one (sym (differs (two .one) (omega (arith, two .one-lt))) ∙ ap (λ (v : ℕ). v ⊕ cell p (y .0) (two .one) c) q ∙ self _) })
       (record { row = two .other-lt; column = hc; bytes = λ q. two .at-other (sym (differs (two .other) (omega (arith, two .other-lt))) ∙ ap (λ (v : ℕ). v ⊕ cell p (y .0) (two .other) c) q ∙ self _) }))
       (z .1) (λ h. h)))
+
+  -- SO REPAIR ENDS RIGHT, whatever was found: with what is said of it, and the mended tile
+  pub repair-ends : {which : Hurt} {s : Said} → Found which → Told p X which s → RepairTold kind p l x s (mended p X which x)
+  repair-ends f nothing = ends-clean f
+  repair-ends f (line c) = ends-mended f c
+  repair-ends f more = ends-damaged f
+  repair-ends f doubtful = ends-doubtful f
+
+-- and RECOVER ENDS RIGHT, with the text of that tile
+pub recover-ends : (kind : Kind) (p l : ℕ) (scan text : List ℕ) (X : ℕ → ℕ) → Admitted kind p l (BothLengths p scan text) size.well
+    → {which : Hurt} {s : Said} {new : List ℕ} → hurt.Found p l (sum p 1 (cell p scan)) (sum p l (cell p scan)) X which → Told p X which s
+    → Recovered p X which scan text new → RecoverTold kind p l scan text s new
+recover-ends kind p l scan text X h {which} {s} {new} f t e = go t f e
+  where
+    one : Admitted kind p l (TileLength p scan) size.well
+    one = let w = admitted-well h in admits (w .0) (w .1) (w .2 .0)
+
+    go : {which : Hurt} {s : Said} {new : List ℕ} → Told p X which s → hurt.Found p l (sum p 1 (cell p scan)) (sum p l (cell p scan)) X which
+        → Recovered p X which scan text new → RecoverTold kind p l scan text s new
+    go nothing f e = rw e (RecoverTold.recovers h granted-clean (repair-ends kind p l scan X one f nothing))
+    go (line c) f e = rw e (RecoverTold.recovers h (named-granted (named kind p l scan X one f c)) (repair-ends kind p l scan X one f (line c)))
+    go more f e = rw e (RecoverTold.unrepaired h (record { tile = scan; told = repair-ends kind p l scan X one f more }))
+    go doubtful f e = rw e (RecoverTold.unrepaired h (record { tile = scan; told = repair-ends kind p l scan X one f doubtful }))

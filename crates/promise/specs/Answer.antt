@@ -6,8 +6,8 @@ use Rattle.promise.specs.declared.Outcome.the-variants as outcome
 use Rattle.promise.specs.declared.Repaired.{Repaired}
 use Rattle.promise.specs.declared.Repaired.the-variants as repair
 
--- SPEC 5, 5.3 and 5.5: done, of write, read and fill, and of judge that it accepts; clean, a cell by its row and its column, a column or a
--- row, of repair; and of all five the number of a refusal
+-- SPEC 5, 5.3, 5.5, 5.6 and 5.7: done, of write, read and fill, and of judge that it accepts; clean, a cell by its row and its column, a
+-- column or a row, of repair, inspect and recover; and of all seven the number of a refusal
 pub data Said : Type 0 where
   done : Said
   clean : Said
@@ -16,7 +16,7 @@ pub data Said : Type 0 where
   row : ℕ → Said
   refused : ℕ → Said
 
--- SPEC 5 and 5.3: what each answer of write, read, fill and judge stands for, and each of repair
+-- SPEC 5 and 5.3: what each answer of write, read, fill and judge stands for, and each of repair, inspect and recover
 abbrev pub outcomeSaid : Outcome → Said
 outcomeSaid outcome.Done = done
 outcomeSaid (outcome.Refused r) = refused (numberOf r)

@@ -21,7 +21,8 @@ pub data Admitted (k : Kind) (p l : ℕ) (Lengths : Type 0) : size.Said → Type
   no-length : size.Judged k p l size.well → (Lengths → ⊥) → Admitted k p l Lengths (size.refused 3)
   admitted : size.Judged k p l size.well → Lengths → Admitted k p l Lengths size.well
 
--- SPEC 5, with 3.1 and 3.2: the length that repair and fill ask for, those that write and read do, and those that judge does
+-- SPEC 5, with 3.1 and 3.2: the length that repair, inspect and fill ask for, those that write, read and recover do, and those that judge
+-- does
 abbrev pub TileLength : ℕ → List ℕ → Type 0
 TileLength p tile = length tile ≡ tileLength p
 
@@ -89,6 +90,24 @@ pub data RepairTold (k : Kind) (p l : ℕ) (tile : List ℕ) : Said → List ℕ
   is-good : Admitted k p l (TileLength p tile) size.well → Good p l tile → RepairTold k p l tile clean tile
   is-hurt : {said : Said} {new : List ℕ} → Admitted k p l (TileLength p tile) size.well → (Good p l tile → ⊥)
       → Looked (ByLine p l tile) (Named p tile) tile said new → RepairTold k p l tile said new
+
+-- SPEC 5.6: INSPECT. There is a tile that repair would leave, and this is what it would say
+pub record InspectTold (k : Kind) (p l : ℕ) (scan : List ℕ) (said : Said) : Type 0 where
+  pub tile : List ℕ
+  pub told : RepairTold k p l scan said tile
+
+-- SPEC 5, 5.3: s is no refusal
+abbrev pub Granted : Said → Type 0
+Granted s = (n : ℕ) → s ≡ refused n → ⊥
+
+-- SPEC 5.7: RECOVER. What is said is what repair would say of the scan. If that is a refusal the text stays, and otherwise it becomes that of
+-- the tile that repair would leave
+pub data RecoverTold (k : Kind) (p l : ℕ) (scan text : List ℕ) : Said → List ℕ → Type 0 where
+  refuses : {n : ℕ} → Admitted k p l (BothLengths p scan text) (size.refused n) → RecoverTold k p l scan text (refused n) text
+  unrepaired : {n : ℕ} → Admitted k p l (BothLengths p scan text) size.well → InspectTold k p l scan (refused n)
+      → RecoverTold k p l scan text (refused n) text
+  recovers : {said : Said} {tile : List ℕ} → Admitted k p l (BothLengths p scan text) size.well → Granted said → RepairTold k p l scan said tile
+      → RecoverTold k p l scan text said (textOf p tile)
 
 -- SPEC 3.4: the tile has the line, whose number is 0 to p-2
 abbrev pub Has : ℕ → Line → Type 0

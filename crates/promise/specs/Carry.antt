@@ -12,7 +12,7 @@ use Rattle.code.specs.declared.Kind.{Kind}
 use Rattle.code.specs.declared.Line.{Line}
 use Rattle.size.specs.Answer as size
 use Rattle.promise.specs.Answer.{Said, refused}
-use Rattle.promise.specs.Calls.{Admitted, TileLength, Looked, ByLine, MoreBytes, Named, by-cell, by-column, by-row, RepairTold, FillTold}
+use Rattle.promise.specs.Calls.{Admitted, TileLength, Looked, ByLine, MoreBytes, Named, by-cell, by-column, by-row, RepairTold, Granted, FillTold}
 use Rattle.promise.specs.Admit.{admitted-well}
 use Rattle.promise.specs.Explain.{explains-fills}
 use Rattle.promise.specs.Doubt.{repairs}
@@ -109,7 +109,7 @@ module _ (k : Kind) (p l : ℕ) (w : List ℕ) (g : Good p l w) where
       FillTold.has-lines (admitted-carried x h) ha hb (looked-carried (λ z. fills-carried a b x z size) (λ z. fills-back a b x z size) (λ z f d. d) q)
 
 -- where a repair succeeds it leaves a good tile
-pub repaired-good : {k : Kind} {p l : ℕ} {x y : List ℕ} {s : Said} → ((n : ℕ) → s ≡ refused n → ⊥) → RepairTold k p l x s y → (length y ≡ tileLength p) × Good p l y
+pub repaired-good : {k : Kind} {p l : ℕ} {x y : List ℕ} {s : Said} → Granted s → RepairTold k p l x s y → (length y ≡ tileLength p) × Good p l y
 repaired-good d (RepairTold.refuses {n} h) = absurd (d n refl)
 repaired-good d (RepairTold.is-good h g) = (admitted-well h .2, g)
 repaired-good d (RepairTold.is-hurt h bad (Looked.one o n)) = (o .is .explains .size, o .is .explains .good)

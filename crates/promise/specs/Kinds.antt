@@ -16,11 +16,11 @@ use Rattle.code.specs.declared.Kind.{Kind}
 use Rattle.code.specs.declared.Line.{Line}
 use Rattle.size.specs.Answer as size
 use Rattle.promise.specs.Answer.{Said, done, refused}
-use Rattle.promise.specs.Calls.{Admitted, TileLength, WriteTold, ReadTold, Looked, ByLine, RepairTold, Has, FillTold}
+use Rattle.promise.specs.Calls.{Admitted, TileLength, WriteTold, ReadTold, Looked, ByLine, RepairTold, InspectTold, RecoverTold, Has, FillTold}
 use Rattle.promise.specs.Admit.{admitted-well, admitted-no, admitted-low, admitted-alike, slope-of}
 use Rattle.promise.specs.Name.{named-in}
 use Rattle.promise.specs.Doubt.{Doubt, reach-once, doubt-several, several-doubt, doubt-bytes, repairs}
-use Rattle.promise.specs.Once.{write-told-once, read-told-once, repair-told-once, fill-told-once}
+use Rattle.promise.specs.Once.{write-told-once, read-told-once, repair-told-once, inspect-told-once, recover-told-once, fill-told-once}
 
 -- ---- both kinds alike, where the slope is allowed
 
@@ -40,6 +40,14 @@ module _ {p l : ℕ} (allowed : Allowed p l) {j k : Kind} where
   repair-either (RepairTold.is-good h g) = RepairTold.is-good (admitted-alike allowed h) g
   repair-either (RepairTold.is-hurt h bad q) = RepairTold.is-hurt (admitted-alike allowed h) bad q
 
+  pub inspect-either : {scan : List ℕ} {s : Said} → InspectTold j p l scan s → InspectTold k p l scan s
+  inspect-either t = record { tile = t .tile; told = repair-either (t .told) }
+
+  pub recover-either : {scan text new : List ℕ} {s : Said} → RecoverTold j p l scan text s new → RecoverTold k p l scan text s new
+  recover-either (RecoverTold.refuses h) = RecoverTold.refuses (admitted-alike allowed h)
+  recover-either (RecoverTold.unrepaired h t) = RecoverTold.unrepaired (admitted-alike allowed h) (inspect-either t)
+  recover-either (RecoverTold.recovers h d t) = RecoverTold.recovers (admitted-alike allowed h) d (repair-either t)
+
   pub fill-either : {tile new : List ℕ} {a b : Line} {s : Said} → FillTold j p l tile a b s new → FillTold k p l tile a b s new
   fill-either (FillTold.refuses h) = FillTold.refuses (admitted-alike allowed h)
   fill-either (FillTold.no-line h f) = FillTold.no-line (admitted-alike allowed h) f
@@ -54,6 +62,12 @@ module _ {p l : ℕ} (allowed : Allowed p l) {j k : Kind} where
 
   pub repair-alike : {tile x y : List ℕ} {s t : Said} → RepairTold j p l tile s x → RepairTold k p l tile t y → (s ≡ t) × (x ≡ y)
   repair-alike {tile} {x} {y} {s} {t} a b = repair-told-once k p l tile s t x y (repair-either a) b
+
+  pub inspect-alike : {scan : List ℕ} {s t : Said} → InspectTold j p l scan s → InspectTold k p l scan t → s ≡ t
+  inspect-alike {scan} {s} {t} a b = inspect-told-once k p l scan s t (inspect-either a) b
+
+  pub recover-alike : {scan text x y : List ℕ} {s t : Said} → RecoverTold j p l scan text s x → RecoverTold k p l scan text t y → (s ≡ t) × (x ≡ y)
+  recover-alike {scan} {text} {x} {y} {s} {t} a b = recover-told-once k p l scan text s t x y (recover-either a) b
 
   pub fill-alike : {tile x y : List ℕ} {a b : Line} {s t : Said} → FillTold j p l tile a b s x → FillTold k p l tile a b t y → (s ≡ t) × (x ≡ y)
   fill-alike {tile} {x} {y} {a} {b} {s} {t} c d = fill-told-once k p l tile a b s t x y (fill-either c) d
@@ -107,6 +121,16 @@ module _ {k : Kind} {p l : ℕ} {tile new : List ℕ} where
   pub crossed-unfilled : {a b : Line} → (Parallel a b → ⊥) → (ReachesAll p l → ⊥) → FillTold k p l tile a b done new → ⊥
   crossed-unfilled {a} {b} cross miss (FillTold.has-lines h ha hb (Looked.one o q)) =
       only-several o (unsure-several p l tile (slope-of h) a b (omega arith) (omega arith) (⊎-elim cross miss) new (o .is))
+
+-- inspect and recover, which say what repair says, never say 8 at an allowed slope either
+module _ {k : Kind} {p l : ℕ} {scan : List ℕ} where
+  pub inspect-sure : Allowed p l → InspectTold k p l scan (refused 8) → ⊥
+  inspect-sure allowed t = repair-sure allowed (t .told)
+
+  pub recover-sure : {text new : List ℕ} → Allowed p l → RecoverTold k p l scan text (refused 8) new → ⊥
+  recover-sure allowed (RecoverTold.refuses h) = absurd (omega (arith, admitted-low h))
+  recover-sure allowed (RecoverTold.unrepaired h t) = inspect-sure allowed t
+  recover-sure allowed (RecoverTold.recovers h d t) = d 8 refl
 
 -- .. but refused with 5 or with 8
 module _ {k : Kind} {p l : ℕ} {tile : List ℕ} where

@@ -11,9 +11,11 @@ pub mod Bought
 pub mod Carry
 pub mod Kinds
 pub mod Judged
+pub mod Recovered
 pub mod Earlier
 pub mod Decide
 pub mod Worked
 pub mod WorkedOld
 pub mod WorkedJudged
+pub mod WorkedRecovered
 pub mod Shams

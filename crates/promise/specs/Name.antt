@@ -13,7 +13,7 @@ use Rattle.code.specs.Differ.{differ-or-not, differ-on, index, on-index, differ
 use Rattle.code.specs.declared.Line.{Line}
 use Rattle.code.specs.declared.Line.the-variants.{Row, Column}
 use Rattle.promise.specs.Answer.{Said, done, clean, column, row, refused}
-use Rattle.promise.specs.Calls.{OneByte, MoreBytes, Named, by-cell, by-column, by-row}
+use Rattle.promise.specs.Calls.{OneByte, MoreBytes, Named, by-cell, by-column, by-row, Granted}
 
 -- what is said of a line
 abbrev pub lineSaid : Line → Said
@@ -74,6 +74,14 @@ module _ {p : ℕ} {x y : List ℕ} where
   named-in (by-cell o) = (omega (arith, o .here .row), omega (arith, o .here .column))
   named-in (by-column m) = omega (arith, m .within _ _ (m .one), m .one .column)
   named-in (by-row m) = omega (arith, m .within _ _ (m .one), m .one .row)
+
+  -- no difference is named by a refusal
+  pub named-granted : {s : Said} → Named p x y s → Granted s
+  named-granted n m e = named-in (rw e at n)
+
+-- nor is a tile that is clean refused
+pub granted-clean : Granted clean
+granted-clean n e = let z : _≡_ {A = ℕ} 0 1 = cc in omega arith
 
 -- ---- and one at least, where all that differs is on one line
 

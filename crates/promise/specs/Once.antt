@@ -1,5 +1,5 @@
 -- The contracts settle the answers and the bytes: two outcomes that are allowed for the same input are the same. Assumes nothing.
-use mathlib.Core.Path.{_≡_, refl, sym, ap, _∙_}
+use mathlib.Core.Path.{_≡_, refl, sym, ap, ap₂, _∙_}
 use mathlib.Core.List.{List}
 use Prim.Native.Nat.{ℕ}
 use Rattle.residue.specs.Size.{Size}
@@ -17,7 +17,7 @@ use Rattle.size.specs.Refusal.{numberOf}
 use Rattle.size.specs.Once.{refusalOf, back, number-once, judgement-said-once}
 use Rattle.size.specs.declared.Judgement.{Judgement}
 use Rattle.promise.specs.Answer.{Said, done, clean, cell, column, row, refused, outcomeSaid, repairSaid}
-use Rattle.promise.specs.Calls.{Admitted, TileLength, BothLengths, TwoLengths, WriteTold, ReadTold, Looked, ByLine, Named, RepairTold, Has, Done, FillTold, JudgeTold}
+use Rattle.promise.specs.Calls.{Admitted, TileLength, BothLengths, TwoLengths, WriteTold, ReadTold, Looked, ByLine, Named, RepairTold, InspectTold, Granted, RecoverTold, Has, Done, FillTold, JudgeTold}
 use Rattle.promise.specs.Admit.{admitted-well, admitted-no, admitted-once}
 use Rattle.promise.specs.Name.{named-once}
 use Rattle.promise.specs.declared.Outcome.{Outcome}
@@ -147,6 +147,50 @@ module _ (k : Kind) (p l : ℕ) (tile : List ℕ) where
   repair-told-once a b x y t u =
       call-once (repair-call t) (repair-call u) (λ S. else-single (λ g. just-single clean tile) (looked-single (λ z s t. named-once)))
 
+-- inspect: what repair says
+module _ (k : Kind) (p l : ℕ) (scan : List ℕ) where
+  -- two answers of it are the same
+  pub inspect-told-once : (a b : Said) → InspectTold k p l scan a → InspectTold k p l scan b → a ≡ b
+  inspect-told-once a b t u = repair-told-once k p l scan a b (t .tile) (u .tile) (t .told) (u .told) .0
+
+-- recover: what repair says, with the text of its tile, or, where that is a refusal, with the text as it was
+module _ (k : Kind) (p l : ℕ) (scan text : List ℕ) where
+  -- the text that is left, after what was said, where repair leaves this tile
+  abbrev left : Said → List ℕ → List ℕ
+  left done tile = textOf p tile
+  left clean tile = textOf p tile
+  left (cell r c) tile = textOf p tile
+  left (column c) tile = textOf p tile
+  left (row r) tile = textOf p tile
+  left (refused n) tile = text
+
+  left-granted : (s : Said) (tile : List ℕ) → Granted s → left s tile ≡ textOf p tile
+  left-granted done tile d = refl
+  left-granted clean tile d = refl
+  left-granted (cell r c) tile d = refl
+  left-granted (column c) tile d = refl
+  left-granted (row r) tile d = refl
+  left-granted (refused n) tile d = absurd (d n refl)
+
+  -- its own outcomes ..
+  abbrev RecoverOwn : Said → List ℕ → Type 0
+  RecoverOwn a x = (tile : List ℕ) × RepairTold k p l scan a tile × (x ≡ left a tile)
+
+  -- .. are one, as those of repair are
+  recover-single : Single RecoverOwn
+  recover-single a b x y t u =
+      let e = repair-told-once k p l scan a b (t .0) (u .0) (t .1) (u .1) in (e .0, t .2 ∙ ap₂ left (e .0) (e .1) ∙ sym (u .2))
+
+  -- a recovery, as such a call
+  recover-call : {a : Said} {x : List ℕ} → RecoverTold k p l scan text a x → Call k p l (BothLengths p scan text) text RecoverOwn a x
+  recover-call (RecoverTold.refuses h) = refuses h
+  recover-call (RecoverTold.unrepaired h t) = goes-on h (t .tile, t .told, refl)
+  recover-call (RecoverTold.recovers {said} {tile} h d t) = goes-on h (tile, t, sym (left-granted said tile d))
+
+  -- so two outcomes of a recovery are the same
+  pub recover-told-once : (a b : Said) (x y : List ℕ) → RecoverTold k p l scan text a x → RecoverTold k p l scan text b y → (a ≡ b) × (x ≡ y)
+  recover-told-once a b x y t u = call-once (recover-call t) (recover-call u) (λ S. recover-single)
+
 -- fill: 4 where the tile lacks a line, and else what comes of looking at its fillings
 module _ (k : Kind) (p l : ℕ) (tile : List ℕ) (a b : Line) where
   -- its own outcomes
@@ -198,7 +242,7 @@ outcome-said-once outcome.Done (outcome.Refused s) e = cc
 outcome-said-once (outcome.Refused r) outcome.Done e = cc
 outcome-said-once (outcome.Refused r) (outcome.Refused s) e = let n : numberOf r ≡ numberOf s = cc in ap outcome.Refused (number-once r s n)
 
--- .. and one of repair: the one that says s (`done` is no answer of repair) says it
+-- .. and one of repair, inspect or recover: the one that says s (`done` is no answer of theirs) says it
 abbrev answerOf : Said → Repaired
 answerOf done = repair.Clean
 answerOf clean = repair.Clean
@@ -222,6 +266,10 @@ outcome-single : (R : Said → List ℕ → Type 0) → Single R → (a b : Outc
     → (a ≡ b) × (x ≡ y)
 outcome-single R f a b x y t u = let e = f (outcomeSaid a) (outcomeSaid b) x y t u in (outcome-said-once a b (e .0), e .1)
 
+repaired-single : (R : Said → List ℕ → Type 0) → Single R → (a b : Repaired) (x y : List ℕ) → R (repairSaid a) x → R (repairSaid b) y
+    → (a ≡ b) × (x ≡ y)
+repaired-single R f a b x y t u = let e = f (repairSaid a) (repairSaid b) x y t u in (repair-said-once a b (e .0), e .1)
+
 -- a judgement of a kind, a size, a slope and a length has one right answer
 pub judge-tile-once : (k : Kind) (p l cells : ℕ) (a b : Judgement) → Admitted k p l (cells ≡ tileLength p) (judgementSaid a) → Admitted k p l (cells ≡ tileLength p) (judgementSaid b) → a ≡ b
 judge-tile-once k p l cells a b t u = judgement-said-once a b (admitted-once k p l (cells ≡ tileLength p) (judgementSaid a) (judgementSaid b) t u)
@@ -239,8 +287,17 @@ read-once k p l tile text = outcome-single (ReadTold k p l tile text) (read-told
 -- a repair has one right answer, and leaves one tile
 pub repair-once : (k : Kind) (p l : ℕ) (tile : List ℕ) (a b : Repaired) (x y : List ℕ)
     → RepairTold k p l tile (repairSaid a) x → RepairTold k p l tile (repairSaid b) y → (a ≡ b) × (x ≡ y)
-repair-once k p l tile a b x y t u =
-    let e = repair-told-once k p l tile (repairSaid a) (repairSaid b) x y t u in (repair-said-once a b (e .0), e .1)
+repair-once k p l tile = repaired-single (RepairTold k p l tile) (repair-told-once k p l tile)
+
+-- an inspection has one right answer
+pub inspect-once : (k : Kind) (p l : ℕ) (scan : List ℕ) (a b : Repaired) → InspectTold k p l scan (repairSaid a) → InspectTold k p l scan (repairSaid b)
+    → a ≡ b
+inspect-once k p l scan a b t u = repair-said-once a b (inspect-told-once k p l scan (repairSaid a) (repairSaid b) t u)
+
+-- a recovery has one right answer, and leaves one text
+pub recover-once : (k : Kind) (p l : ℕ) (scan text : List ℕ) (a b : Repaired) (x y : List ℕ)
+    → RecoverTold k p l scan text (repairSaid a) x → RecoverTold k p l scan text (repairSaid b) y → (a ≡ b) × (x ≡ y)
+recover-once k p l scan text = repaired-single (RecoverTold k p l scan text) (recover-told-once k p l scan text)
 
 -- a filling of flagged lines has one right answer, and leaves one tile
 pub fill-once : (k : Kind) (p l : ℕ) (tile : List ℕ) (a b : Line) (c d : Outcome) (x y : List ℕ)

@@ -17,9 +17,9 @@ use Rattle.code.specs.Fillings.{Sure, fills-once}
 use Rattle.code.specs.declared.Kind.{Kind}
 use Rattle.code.specs.declared.Line.{Line}
 use Rattle.promise.specs.Answer.{Said, done, clean, cell, column, row, refused}
-use Rattle.promise.specs.Calls.{WriteTold, ReadTold, Looked, ByLine, OneByte, Named, by-cell, RepairTold, Has, Done, FillTold}
+use Rattle.promise.specs.Calls.{WriteTold, ReadTold, Looked, ByLine, OneByte, Named, by-cell, RepairTold, Granted, RecoverTold, Has, Done, FillTold}
 use Rattle.promise.specs.Admit.{admits, admitted-well, admitted-no, slope-of}
-use Rattle.promise.specs.Name.{named-line, named-in}
+use Rattle.promise.specs.Name.{named-line, named-in, granted-clean, named-granted}
 use Rattle.promise.specs.Doubt.{cell-only, reach-once, good-only, repairs}
 use Rattle.promise.specs.Once.{read-told-once, repair-told-once, fill-told-once}
 use Rattle.promise.specs.Kinds.{repair-sure}
@@ -48,18 +48,18 @@ module _ (k : Kind) (p l : ℕ) (a : Line) (x tile : List ℕ) (s : Size p) (ex 
 
   -- AT EVERY SLOPE it is repaired to itself, or it is doubtful
   pub repair-or-doubt : {said : Said} {new : List ℕ} → Takes k p l → RepairTold k p l tile said new
-      → ((new ≡ x) × ((n : ℕ) → said ≡ refused n → ⊥)) ⊎ (said ≡ refused 8)
+      → ((new ≡ x) × Granted said) ⊎ (said ≡ refused 8)
   repair-or-doubt w (RepairTold.refuses h) = absurd (admitted-no h (s, w, e))
-  repair-or-doubt w (RepairTold.is-good h f) = inl (sym (good-only p l tile (slope-of h) e f .only x itself), λ n q. absurd (let z : _≡_ {A = ℕ} 0 1 = cc in omega arith))
-  repair-or-doubt w (RepairTold.is-hurt h bad (Looked.one o n)) = inl (sym (o .only x itself), λ m q. named-in (rw q at n))
+  repair-or-doubt w (RepairTold.is-good h f) = inl (sym (good-only p l tile (slope-of h) e f .only x itself), granted-clean)
+  repair-or-doubt w (RepairTold.is-hurt h bad (Looked.one o n)) = inl (sym (o .only x itself), named-granted n)
   repair-or-doubt w (RepairTold.is-hurt h bad (Looked.none f)) = absurd (f x itself)
   repair-or-doubt w (RepairTold.is-hurt h bad (Looked.several d)) = inr refl
 
   -- AT AN ALLOWED SLOPE it is repaired to itself, and never refused
-  pub repair-one-line : (said : Said) (new : List ℕ) → Allowed p l → RepairTold k p l tile said new → (new ≡ x) × ((n : ℕ) → said ≡ refused n → ⊥)
+  pub repair-one-line : (said : Said) (new : List ℕ) → Allowed p l → RepairTold k p l tile said new → (new ≡ x) × Granted said
   repair-one-line said new w told = sure (repair-or-doubt (allowed-taken k p l w) told)
     where
-      sure : ((new ≡ x) × ((n : ℕ) → said ≡ refused n → ⊥)) ⊎ (said ≡ refused 8) → (new ≡ x) × ((n : ℕ) → said ≡ refused n → ⊥)
+      sure : ((new ≡ x) × Granted said) ⊎ (said ≡ refused 8) → (new ≡ x) × Granted said
       sure (inl q) = q
       sure (inr q) = absurd (repair-sure w (rw q at told))
 
@@ -163,6 +163,12 @@ module _ {k : Kind} {p l : ℕ} where
   repair-refused (RepairTold.is-hurt h bad (Looked.one o m)) = absurd (named-in m)
   repair-refused (RepairTold.is-hurt h bad (Looked.none f)) = refl
   repair-refused (RepairTold.is-hurt h bad (Looked.several d)) = refl
+
+  -- a refused recovery leaves the text
+  pub recover-refused : {n : ℕ} {scan text new : List ℕ} → RecoverTold k p l scan text (refused n) new → new ≡ text
+  recover-refused (RecoverTold.refuses h) = refl
+  recover-refused (RecoverTold.unrepaired h t) = refl
+  recover-refused {n} (RecoverTold.recovers h d t) = absurd (d n refl)
 
   -- a refused filling leaves the tile
   pub fill-refused : {n : ℕ} {tile new : List ℕ} {a b : Line} → FillTold k p l tile a b (refused n) new → new ≡ tile

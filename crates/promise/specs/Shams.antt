@@ -4,6 +4,7 @@ use mathlib.Core.List.{List, [], _∷_}
 use Prim.Native.Nat.{ℕ}
 use native.Mathlib.Omega.{arith}
 use lib.ListN.{length}
+use Rattle.residue.specs.Size.{Size}
 use Rattle.code.specs.Tile.{tileLength, textLength, Fills}
 use Rattle.code.specs.Kind.{Takes}
 use Rattle.code.specs.Count.{Several, only-several}
@@ -14,15 +15,16 @@ use Rattle.code.specs.declared.Line.the-variants.{Row, Column}
 use Rattle.size.specs.Answer as size
 use Rattle.size.specs.Shams.{size-5, size-7, no-at-7-2}
 use Rattle.promise.specs.Answer.{Said, done, clean, cell, column, refused}
-use Rattle.promise.specs.Calls.{Admitted, judged, WriteTold, ReadTold, Looked, OneByte, MoreBytes, by-cell, by-column, by-row, RepairTold, FillTold, JudgeTold}
+use Rattle.promise.specs.Calls.{Admitted, judged, no-length, WriteTold, ReadTold, Looked, OneByte, MoreBytes, by-cell, by-column, by-row, RepairTold, InspectTold, RecoverTold, FillTold, JudgeTold}
 use Rattle.promise.specs.Admit.{admitted-well, admitted-no}
 use Rattle.promise.specs.Name.{lineSaid, one-or-more}
-use Rattle.promise.specs.Once.{repair-told-once}
-use Rattle.promise.specs.Promise.{read-after-write, write-refused}
+use Rattle.promise.specs.Once.{repair-told-once, inspect-told-once, recover-told-once}
+use Rattle.promise.specs.Promise.{read-after-write, write-refused, recover-refused}
 use Rattle.promise.specs.Judged.{unallowed-judged}
-use Rattle.promise.specs.Worked.{Exactly, claimed, other-claimed, taken-5-2, zeros, text-1, tile-1, text-2, tile-2, tile-4, tile-9, filled-9, tile-10, copied-1, hurt-2}
+use Rattle.promise.specs.Worked.{Exactly, claimed, other-claimed, taken-5-2, zeros, text-1, tile-1, text-2, tile-2, tile-4, tile-5, tile-8, tile-9, filled-9, tile-10, copied-1, hurt-2}
 use Rattle.promise.specs.WorkedOld as old
 use Rattle.promise.specs.WorkedJudged.{Judges, judgement}
+use Rattle.promise.specs.WorkedRecovered.{nines, recovery-claimed}
 
 -- where a call allows one outcome, it does not allow another answer, nor other bytes
 module _ {Answer : Type 0} (R : Answer → List ℕ → Type 0) {s : Answer} {x : List ℕ} (told : Exactly R s x) (t : Answer) (y : List ℕ) where
@@ -109,6 +111,46 @@ old-refused page new e = wrong-answer (ReadTold Old 7 2 old.E page) (old.worked-
 -- one that takes an old slope for a new tile
 pub new-taken : (page new : List ℕ) → ReadTold New 7 2 old.E page done new → ⊥
 new-taken page new (ReadTold.reads h g) = no-at-7-2 (admitted-well h .1)
+
+-- ---- inspect and recover
+
+-- where inspect says one thing, it does not say another
+misinspected : {k : Kind} {p l : ℕ} {scan : List ℕ} {s : Said} → InspectTold k p l scan s → (t : Said) → (t ≡ s → _≡_ {A = ℕ} 0 1) → InspectTold k p l scan t → ⊥
+misinspected {k} {p} {l} {scan} {s} told t f r = let z = f (inspect-told-once k p l scan t s r told) in omega arith
+
+-- an inspector that finds every tile clean
+pub inspects-clean : (k : Kind) → InspectTold k 5 2 tile-4 clean → ⊥
+inspects-clean k = misinspected (recovery-claimed 26 k .1) clean (λ e. cc)
+
+-- one that stops at the column of a lone byte
+pub inspects-column : (k : Kind) → InspectTold k 5 2 tile-4 (column 3) → ⊥
+inspects-column k = misinspected (recovery-claimed 26 k .1) (column 3) (λ e. cc)
+
+-- one that names the column of a doubtful tile, and does not look at the rows
+pub inspects-first : InspectTold Old 7 2 old.tile-14 (column 0) → ⊥
+inspects-first t = takes-column (t .tile) (t .told)
+
+-- a recovery that reads the scan as it stands: column 0 of tile 5 is hurt, and its bytes are left in the text
+pub reads-unrepaired : (k : Kind) (said : Said) → RecoverTold k 5 2 tile-5 nines said (1 ∷ 0 ∷ 1 ∷ 0 ∷ 0 ∷ 0 ∷ 0 ∷ 0 ∷ []) → ⊥
+reads-unrepaired k said = wrong-bytes (RecoverTold k 5 2 tile-5 nines) (recovery-claimed 27 k .0) said _ (λ e. cc)
+
+-- one that takes the change off in the wrong column, the next one
+pub wrong-column : (k : Kind) (said : Said) → RecoverTold k 5 2 tile-5 nines said (1 ∷ 1 ∷ 1 ∷ 1 ∷ 0 ∷ 0 ∷ 0 ∷ 0 ∷ []) → ⊥
+wrong-column k said = wrong-bytes (RecoverTold k 5 2 tile-5 nines) (recovery-claimed 27 k .0) said _ (λ e. cc)
+
+-- one that adds the change of a check column to the text
+pub check-in-text : (k : Kind) (said : Said) → RecoverTold k 5 2 tile-8 nines said (1 ∷ 1 ∷ 0 ∷ 0 ∷ 0 ∷ 0 ∷ 0 ∷ 1 ∷ []) → ⊥
+check-in-text k said = wrong-bytes (RecoverTold k 5 2 tile-8 nines) (recovery-claimed 29 k .0) said _ (λ e. cc)
+
+-- one that leaves a text behind when it refuses: of any scan, at any size and slope, and with any number
+pub leaves-text : {k : Kind} {p l n : ℕ} {scan text new : List ℕ} → (new ≡ text → ⊥) → RecoverTold k p l scan text (refused n) new → ⊥
+leaves-text d r = d (recover-refused r)
+
+-- one that looks at the scan before the text's length, and so does not say 3 where that is wrong
+pub text-length-last : {k : Kind} {p l : ℕ} {scan text new : List ℕ} (said : Said) → Size p → Takes k p l → (length text ≡ textLength p → ⊥)
+    → (said ≡ refused 3 → ⊥) → RecoverTold k p l scan text said new → ⊥
+text-length-last {k} {p} {l} {scan} {text} {new} said s w f d r =
+    d (recover-told-once k p l scan text said (refused 3) new text r (RecoverTold.refuses (no-length (size.taken s w) (λ e. f (e .1)))) .0)
 
 -- ---- judge
 

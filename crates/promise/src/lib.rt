@@ -18,6 +18,7 @@ pub enum Outcome {
 }
 
 // What repair answers: nothing was hurt; or what it put right: one byte, by its row and its column, or two and more of a column or of a row.
+// Inspect and recover answer what repair would.
 pub enum Repaired {
     Clean,
     Cell(usize, usize),

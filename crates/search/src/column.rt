@@ -70,7 +70,7 @@ pub fn along(p: usize, line: Line, a: &[u8; 257]) -> [u8; 257]
     sums
 }
 
-// Takes off the common byte, the sum at the line's added zero (SPEC 5.6).
+// Takes off the common byte, the sum at the line's added zero (SPEC 5.8).
 pub fn take_off_common(p: usize, sums: &mut [u8; 257])
     requires { ⌜ (0 < p) × (p ≤ 257) × (length (now sums) ≡ 257) ⌝ }
     ensures { λ _. ⌜ TakenOff p (held (now (sums .entry))) (held (now (sums .exit))) ⌝ }

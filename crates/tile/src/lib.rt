@@ -1,7 +1,9 @@
-// The tile calls: write, read, repair, fill and judge. None asks anything of its input: what cannot be done is refused by number, and a
+// The tile calls: write, read, repair, inspect, recover, fill and judge. None asks anything of its input: what cannot be done is refused by number, and a
 // refused call changes no byte that was lent to it. Each stands in a room of its own; here are all of them, for users.
 pub use filler::fill;
 pub use judge::judge;
+pub use mender::inspect;
+pub use mender::recover;
 pub use mender::repair;
 pub use promise::Outcome;
 pub use promise::Repaired;

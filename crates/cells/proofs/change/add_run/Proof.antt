@@ -8,29 +8,29 @@ use Rattle.cells.proofs.change.add_run.Statement.{statement}
 use Rattle.cells.proofs.change.add_run.Tie as tie
 
 abbrev Inv-loop : tie.InvT-loop
-Inv-loop count start step change tile₀ at₀ k₀ tile at k = (k ≤ count) × (at ≡ start + step * k) × RunAdded start step k (held change) tile₀ tile
+Inv-loop count start step change bytes₀ at₀ k₀ bytes at k = (k ≤ count) × (at ≡ start + step * k) × RunAdded start step k (held change) bytes₀ bytes
 
 abbrev μ-loop : tie.MeasureT-loop
-μ-loop count start step change tile₀ at₀ k₀ tile at k = count - k
+μ-loop count start step change bytes₀ at₀ k₀ bytes at k = count - k
 
 loop-holds : tie.Need-loop-holds Inv-loop μ-loop
 loop-holds c = (omega arith, omega arith, run-none _ _ _ _)
 
-slice-read-tile : tie.Need-slice-read-tile Inv-loop μ-loop
-slice-read-tile c =
+slice-read-bytes : tie.Need-slice-read-bytes Inv-loop μ-loop
+slice-read-bytes c =
     let l = c .before .before in
     omega (arith, run-in _ _ _ (l .loop .k) _ (omega arith) (l .before .pre .4))
 
-element-copy-out-tile : tie.Need-element-copy-out-tile Inv-loop μ-loop
-element-copy-out-tile c = omega arith
+element-copy-out-bytes : tie.Need-element-copy-out-bytes Inv-loop μ-loop
+element-copy-out-bytes c = omega arith
 
-slice-write-tile : tie.Need-slice-write-tile Inv-loop μ-loop
-slice-write-tile c =
+slice-write-bytes : tie.Need-slice-write-bytes Inv-loop μ-loop
+slice-write-bytes c =
     let l = c .before .before .before in
     omega (arith, run-in _ _ _ (l .loop .k) _ (omega arith) (l .before .pre .4))
 
 add-at : tie.Need-add-at Inv-loop μ-loop
-add-at c = omega (arith, slice-write-tile c)
+add-at c = omega (arith, slice-write-bytes c)
 
 add-k : tie.Need-add-k Inv-loop μ-loop
 add-k c = omega arith
@@ -39,7 +39,7 @@ loop-less : tie.Need-loop-less Inv-loop μ-loop
 loop-less c = omega arith
 
 loop-again : tie.Need-loop-again Inv-loop μ-loop
-loop-again c = (omega arith, omega arith, run-more (c .before .before .before .loop .inv .1) (slice-write-tile c) (c .before .before .before .loop .inv .2))
+loop-again c = (omega arith, omega arith, run-more (c .before .before .before .loop .inv .1) (slice-write-bytes c) (c .before .before .before .loop .inv .2))
 
 same-length : tie.Need-same-length Inv-loop μ-loop
 same-length c = omega arith
@@ -50,4 +50,4 @@ returns c =
     rw e at (c .before .loop .inv .2)
 
 pub add-run-spec : {M : Type 1} → statement M
-add-run-spec = tie.close (tie.spec Inv-loop μ-loop loop-holds slice-read-tile element-copy-out-tile slice-write-tile add-at add-k loop-less loop-again same-length returns)
+add-run-spec = tie.close (tie.spec Inv-loop μ-loop loop-holds slice-read-bytes element-copy-out-bytes slice-write-bytes add-at add-k loop-less loop-again same-length returns)

@@ -1,48 +1,35 @@
--- `cells::text::copy` meets its contract. The loop's invariant: the first k bytes are copied. Assumes nothing.
-use mathlib.Core.Path.{_≡_}
-use Prim.Native.Nat.{_-_, _≤_}
+-- `cells::text::copy` meets its contract: the bytes are copied to a piece, and from there. Assumes nothing.
 use native.Mathlib.Omega.{arith}
-use Rattle.cells.specs.Text.{Copied, copied-none, copied-more}
+use borrow.Author.Needs.{needs}
+use Rattle.cells.specs.Text.{copied-on}
 use Rattle.cells.proofs.text.copy.Statement.{statement}
 use Rattle.cells.proofs.text.copy.Tie as tie
 
-abbrev Inv-loop : tie.InvT-loop
-Inv-loop count from start to₀ begin k₀ to k = (k ≤ count) × Copied from start to₀ begin k to
+slice-aggregate-copy-each : tie.Need-slice-aggregate-copy-each
+slice-aggregate-copy-each c = search needs
 
-abbrev μ-loop : tie.MeasureT-loop
-μ-loop count from start to₀ begin k₀ to k = count - k
+copy-each-requires : tie.Need-copy-each-requires
+copy-each-requires c κs = omega arith
 
-loop-holds : tie.Need-loop-holds Inv-loop μ-loop
-loop-holds c = (omega arith, copied-none _ _ _ _)
+slice-aggregate-copy-each-2 : tie.Need-slice-aggregate-copy-each-2
+slice-aggregate-copy-each-2 c = search needs
 
-add-to : tie.Need-add-to Inv-loop μ-loop
-add-to c = omega arith
+copy-each-requires-2 : tie.Need-copy-each-requires-2
+copy-each-requires-2 c κs = omega (arith, c .before .before .before .copy-each .ensures .size)
 
-shared-slice-read-to : tie.Need-shared-slice-read-to Inv-loop μ-loop
-shared-slice-read-to c = omega arith
+same-length : tie.Need-same-length
+same-length c = search needs
 
-add-to-2 : tie.Need-add-to-2 Inv-loop μ-loop
-add-to-2 c = omega arith
-
-slice-write-to : tie.Need-slice-write-to Inv-loop μ-loop
-slice-write-to c = omega arith
-
-add-k : tie.Need-add-k Inv-loop μ-loop
-add-k c = omega arith
-
-loop-less : tie.Need-loop-less Inv-loop μ-loop
-loop-less c = omega arith
-
-loop-again : tie.Need-loop-again Inv-loop μ-loop
-loop-again c = (omega arith, copied-more (omega arith) (c .before .before .loop .inv .1))
-
-same-length : tie.Need-same-length Inv-loop μ-loop
-same-length c = omega arith
-
-returns : tie.Need-returns Inv-loop μ-loop
-returns c =
-    let e : c .before .loop .k ≡ c .before .before .args .count = omega arith in
-    rw e at (c .before .loop .inv .1)
+returns : tie.Need-returns
+returns c = copied-on (c .before .before .before .before .before .before .copy-each .ensures) (c .before .before .copy-each2 .ensures)
 
 pub copy-spec : {M : Type 1} → statement M
-copy-spec = tie.close (tie.spec Inv-loop μ-loop loop-holds add-to shared-slice-read-to add-to-2 slice-write-to add-k loop-less loop-again same-length returns)
+copy-spec =
+    tie.close
+    (tie.spec
+    slice-aggregate-copy-each
+    copy-each-requires
+    slice-aggregate-copy-each-2
+    copy-each-requires-2
+    same-length
+    returns)

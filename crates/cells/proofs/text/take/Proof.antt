@@ -1,57 +1,81 @@
--- `cells::text::take` meets its contract. The loop's invariant: the first i rows are copied. Assumes nothing.
-use mathlib.Core.Path.{_≡_}
-use Prim.Native.Nat.{_-_, _≤_}
+-- `cells::text::take` meets its contract. The loop's invariant: some rows are taken, and `start` and `begin` are where the next one is and goes.
+-- Assumes nothing.
+use Prim.Native.Nat.{_-_}
 use native.Mathlib.Omega.{arith}
-use Rattle.cells.specs.Text.{RowsCopied, rows-in, rows-none, rows-more, rows-taken}
+use lib.ListN.{length}
+use Rattle.cells.specs.Text.{Taken, taken-none, next-in, taken-more, taken-all, rows-taken}
 use Rattle.cells.proofs.text.take.Statement.{statement}
 use Rattle.cells.proofs.text.take.Tie as tie
 
 abbrev Inv-loop : tie.InvT-loop
-Inv-loop p tile text₀ i₀ text i = (i ≤ p - 1) × RowsCopied i (p - 3) tile (p - 1) text₀ (p - 3) text
+Inv-loop p tile text₀ start₀ begin₀ text start begin = Taken p tile text₀ text start begin
 
 abbrev μ-loop : tie.MeasureT-loop
-μ-loop p tile text₀ i₀ text i = p - 1 - i
+μ-loop p tile text₀ start₀ begin₀ text start begin = length text - begin
 
 loop-holds : tie.Need-loop-holds Inv-loop μ-loop
-loop-holds c = (omega arith, rows-none _ _ _ _ _)
-
-sub-loop : tie.Need-sub-loop Inv-loop μ-loop
-sub-loop c = omega arith
+loop-holds c = taken-none _ _ _
 
 sub-copy : tie.Need-sub-copy Inv-loop μ-loop
-sub-copy c = omega arith
-
-sub-copy-2 : tie.Need-sub-copy-2 Inv-loop μ-loop
-sub-copy-2 c = omega arith
-
-mul-copy : tie.Need-mul-copy Inv-loop μ-loop
-mul-copy c = omega (arith, rows-in (c .before .before .before .before .pre) (c .before .loop .i) (omega arith))
-
-sub-copy-3 : tie.Need-sub-copy-3 Inv-loop μ-loop
-sub-copy-3 c = omega arith
-
-mul-copy-2 : tie.Need-mul-copy-2 Inv-loop μ-loop
-mul-copy-2 c = omega (arith, rows-in (c .before .before .before .before .before .pre) (c .before .before .loop .i) (omega arith))
+sub-copy c = omega (arith, c .before .before .before .before .pre .low)
 
 copy-requires : tie.Need-copy-requires Inv-loop μ-loop
-copy-requires c κs = omega (arith, rows-in (c .before .before .before .before .before .pre) (c .before .before .loop .i) (omega arith))
+copy-requires c κs =
+    let l = c .before .before in
+    let pre = c .before .before .before .before .before .pre in
+    omega (arith, pre .high, pre .low, next-in pre (l .loop .inv) (omega arith))
 
-add-i : tie.Need-add-i Inv-loop μ-loop
-add-i c = omega arith
+sub-start : tie.Need-sub-start Inv-loop μ-loop
+sub-start c = omega (arith, c .before .before .before .before .before .before .before .before .pre .low)
+
+add-start : tie.Need-add-start Inv-loop μ-loop
+add-start c =
+    let l = c .before .before .before .before .before in
+    let pre = c .before .before .before .before .before .before .before .before .pre in
+    omega (arith, pre .high, next-in pre (l .loop .inv) (omega arith))
+
+sub-begin : tie.Need-sub-begin Inv-loop μ-loop
+sub-begin c = omega (arith, c .before .before .before .before .before .before .before .before .pre .low)
+
+add-begin : tie.Need-add-begin Inv-loop μ-loop
+add-begin c =
+    let l = c .before .before .before .before .before in
+    let pre = c .before .before .before .before .before .before .before .before .pre in
+    omega (arith, pre .high, next-in pre (l .loop .inv) (omega arith))
 
 loop-less : tie.Need-loop-less Inv-loop μ-loop
-loop-less c = omega arith
+loop-less c =
+    let l = c .before .before .before .before .before in
+    let pre = c .before .before .before .before .before .before .before .before .pre in
+    omega (arith, pre .low, c .before .before .copy .ensures .size, next-in pre (l .loop .inv) (omega arith))
 
 loop-again : tie.Need-loop-again Inv-loop μ-loop
-loop-again c = (omega arith, rows-more (omega arith) (c .before .before .before .before .before .loop .inv .1) (c .before .before .copy .ensures))
+loop-again c =
+    let l = c .before .before .before .before .before in
+    taken-more (c .before .before .before .before .before .before .before .before .pre) (l .loop .inv) (omega arith) (c .before .before .copy .ensures)
 
 same-length : tie.Need-same-length Inv-loop μ-loop
-same-length c = omega arith
+same-length c = c .before .loop .inv .copied .size
 
 returns : tie.Need-returns Inv-loop μ-loop
 returns c =
-    let e : c .before .loop .i ≡ c .before .before .before .before .args .p - 1 = omega arith in
-    rows-taken (omega arith) (c .before .before .before .before .pre .text) (rw e at (c .before .loop .inv .1))
+    let pre = c .before .before .before .before .pre in
+    rows-taken (omega (arith, pre .low)) (pre .text) (taken-all pre (c .before .loop .inv) (omega arith))
 
 pub take-spec : {M : Type 1} → statement M
-take-spec = tie.close (tie.spec Inv-loop μ-loop loop-holds sub-loop sub-copy sub-copy-2 mul-copy sub-copy-3 mul-copy-2 copy-requires add-i loop-less loop-again same-length returns)
+take-spec =
+    tie.close
+    (tie.spec
+    Inv-loop
+    μ-loop
+    loop-holds
+    sub-copy
+    copy-requires
+    sub-start
+    add-start
+    sub-begin
+    add-begin
+    loop-less
+    loop-again
+    same-length
+    returns)
