@@ -7,7 +7,7 @@ from typing import NamedTuple
 from expected import reel as reels
 from expected.sheet import correct
 from expected.sizes import HOUSE, NEW, OLD, Kind, is_size, verdict
-from expected.tile import fill, judge, read, repair, sums, tile_length, write
+from expected.tile import fill, judge, read, recover, repair, sums, tile_length, write
 
 COLON = 23  # the column that tells a question
 LOST = 0xFF  # what a byte that is lost lies there as
@@ -90,6 +90,10 @@ def answered(asked):
         answer, left = read(kind, p, l, lent, held)
     elif name == "mend":
         answer, left = repair(kind, p, l, held)
+    elif name == "look":
+        answer, left = repair(kind, p, l, list(held))[0], held
+    elif name == "text":
+        answer, left = recover(kind, p, l, lent, held)
     elif name == "fill":
         answer, left = fill(kind, p, l, held, *lines)
     elif name == "accept":

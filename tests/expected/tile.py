@@ -1,4 +1,4 @@
-"""The four tile calls of SPEC 5, worked out from the definition of a good tile (SPEC 4.3) and from nothing else.
+"""The tile calls of SPEC 5, worked out from the definition of a good tile (SPEC 4.3) and from nothing else.
 
 A tile is the list of its bytes, row by row (SPEC 3.1). That all 2p sums are one byte is a set of 2p linear equations: bytes are added by
 XOR, bit by bit, and so the equations are over GF(2). The unknowns are the bytes of the flagged cells, which are those on the lines to
@@ -219,6 +219,18 @@ def repair(kind, p, l, tile):
         return difference(p, tile, repaired), repaired
     assert not found or not is_allowed(p, l), "doubtful at an allowed slope"
     return "refused 8" if found else "refused 5", tile
+
+
+def recover(kind, p, l, scan, text):
+    """SPEC 5.7: the answer, and the text afterwards: where repair of the scan is not refused, that of the tile that it leaves."""
+    no = refusal(kind, p, l, lambda: len(scan) == tile_length(p) and len(text) == text_length(p))
+    if no:
+        return no, text
+    answer, repaired = repair(kind, p, l, scan)
+    if answer.startswith("refused"):
+        return answer, text
+    assert read(kind, p, l, repaired, text) == ("done", text_of(p, repaired))
+    return answer, text_of(p, repaired)
 
 
 def fill(kind, p, l, tile, first, second):

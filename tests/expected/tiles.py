@@ -1,5 +1,6 @@
-"""The worked tiles of SPEC 10, 1 to 11 at p 5 and l 2, and 13 to 17, which are old, at p 7 and l 2, the judgements 18 to 24, and what is
-said there of each: the script must ask it, of these bytes, and the answer that the rules give must be the one that is said."""
+"""The worked tiles of SPEC 10, 1 to 11 at p 5 and l 2, and 13 to 17, which are old, at p 7 and l 2, the judgements 18 to 24, the recoveries
+25 to 31, and what is said there of each: the script must ask it, of these bytes, and the answer that the rules give must be the one that is
+said."""
 
 from expected.sheet import added, change, record
 from expected.sizes import NEW, OLD
@@ -37,6 +38,15 @@ RESTORED = {
     23: (FILLED[9][1], ("column", 0), ("column", 0), "refused 11"),
     24: (FILLED[9][1], ("row", 0), ("column", 4), "refused 4"),
 }
+# The scan of a recovery by the cells that have 1, the answer, and the text, or None where it stays; 25 is the tile of 2.
+RECOVERED = {
+    26: ([(2, 3)], "cell 2 3", "0 0 / 0 0 / 0 0 / 0 0"),
+    27: ([(0, 0), (1, 0)], "column 0", "0 0 / 0 0 / 0 0 / 0 0"),
+    28: ([(0, 0), (0, 1)], "row 0", "0 0 / 0 0 / 0 0 / 0 0"),
+    29: ([(0, 0), (1, 1)], "column 3", "1 0 / 0 1 / 0 0 / 0 0"),
+    30: ([(0, 0), (1, 2)], "refused 5", None),
+}
+LENT = 9  # what stands in a text before it is recovered
 LOST = (0, 255)  # what stands in the lost cells
 OTHER = 7  # what stands in a tile before it is written, and in a text before it is read
 # Number 12: how sizes are judged, each with a slope that would do, and slopes at 7, of each kind.
@@ -156,7 +166,20 @@ def hold_judged(says):
         says("accept", P, L, tile, ones([(1, 1)]), answer, tile, (first, second))
 
 
+def hold_recovered(says):
+    """Recoveries 25 to 31: of each scan the text, and that inspect answers the same and leaves the scan."""
+    cases = [(NEW, P, L, parsed(WRITTEN[2][1]), "clean", parsed(WRITTEN[2][0]))]
+    cases += [(NEW, P, L, ones(cells), answer, text and parsed(text)) for cells, answer, text in RECOVERED.values()]
+    cases += [(OLD, OLD_P, OLD_L, ones(OLD_REPAIRED[14][0], OLD_P), "refused 8", None)]
+    for kind, p, l, scan, answer, text in cases:
+        lent = [LENT] * ((p - 1) * (p - 3))
+        says("text", p, l, lent, scan, answer, text or lent, kind=kind)
+        says("look", p, l, scan, [], answer, scan, kind=kind)
+
+
 def hold(says):
     """All of them."""
-    for part in (hold_written, hold_repaired, hold_filled, hold_corrected, hold_edges, hold_old, hold_old_corrected, hold_judged):
+    first = [hold_written, hold_repaired, hold_filled, hold_corrected, hold_edges]
+    later = [hold_old, hold_old_corrected, hold_judged, hold_recovered]
+    for part in first + later:
         part(says)
