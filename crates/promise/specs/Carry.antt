@@ -11,7 +11,7 @@ use Rattle.code.specs.Count.{none-over, only-over, several-over}
 use Rattle.code.specs.declared.Kind.{Kind}
 use Rattle.code.specs.declared.Line.{Line}
 use Rattle.size.specs.Answer as size
-use Rattle.promise.specs.Answer.{Said, refused}
+use Rattle.promise.specs.Answer.{Said}
 use Rattle.promise.specs.Calls.{Admitted, TileLength, Looked, ByLine, MoreBytes, Named, by-cell, by-column, by-row, RepairTold, Granted, FillTold}
 use Rattle.promise.specs.Admit.{admitted-well}
 use Rattle.promise.specs.Explain.{explains-fills}

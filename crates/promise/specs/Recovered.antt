@@ -28,7 +28,7 @@ inspected-repair {k} {p} {l} {scan} {tile} {said} {repaired} t u = inspect-told-
 
 module _ {k : Kind} {p l : ℕ} {scan text : List ℕ} where
   -- .. and recover, lent a text of the right length, what inspect may say ..
-  recover-inspects : {said : Said} {new : List ℕ} → length text ≡ textLength p → RecoverTold k p l scan text said new → InspectTold k p l scan said
+  pub recover-inspects : {said : Said} {new : List ℕ} → length text ≡ textLength p → RecoverTold k p l scan text said new → InspectTold k p l scan said
   recover-inspects e (RecoverTold.refuses h) = record { tile = scan; told = RepairTold.refuses (admitted-more (λ size. (size, e)) h) }
   recover-inspects e (RecoverTold.unrepaired h t) = t
   recover-inspects e (RecoverTold.recovers {said} {tile} h d t) = record { tile = tile; told = t }
@@ -43,6 +43,14 @@ module _ {k : Kind} {p l : ℕ} {scan text : List ℕ} where
   recovered-inspect e t u = recovered-repair e t (u .told)
 
   -- ---- the text
+
+  -- it is that of the tile which repair leaves of a copy
+  pub recovered-text : {said repaired : Said} {new tile : List ℕ} → Granted said → RecoverTold k p l scan text said new → RepairTold k p l scan repaired tile
+      → new ≡ textOf p tile
+  recovered-text granted (RecoverTold.refuses {n} h) u = absurd (granted n refl)
+  recovered-text granted (RecoverTold.unrepaired {n} h t) u = absurd (granted n refl)
+  recovered-text {said} {repaired} {tile = tile} granted (RecoverTold.recovers {tile = left} h d t) u =
+      ap (textOf p) (repair-told-once k p l scan said repaired left tile t u .1)
 
   -- THE TEXT IS WHAT READ GIVES AFTER REPAIR OF A COPY: repair says the same, read is done, and its text is this one
   pub recovered-read : {said repaired read : Said} {new tile page page′ : List ℕ} → Granted said → RecoverTold k p l scan text said new

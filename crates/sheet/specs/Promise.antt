@@ -17,11 +17,12 @@ use Rattle.code.specs.declared.Kind.{Kind}
 use Rattle.code.specs.declared.Line.{Line}
 use Rattle.code.specs.declared.Line.the-variants.{Column}
 use Rattle.promise.specs.Answer as answer
-use Rattle.promise.specs.Calls.{WriteTold, ReadTold, RepairTold, FillTold}
+use Rattle.promise.specs.Calls.{WriteTold, ReadTold, RepairTold, Granted, RecoverTold, FillTold}
 use Rattle.promise.specs.Admit.{admits, admitted-well, admitted-no, admitted-alike}
 use Rattle.promise.specs.Once.{write-told-once, read-told-once, repair-told-once, fill-told-once}
 use Rattle.promise.specs.Promise.{repair-refused, fill-refused}
 use Rattle.promise.specs.Carry.{repair-carried, fill-carried, repaired-good}
+use Rattle.promise.specs.Recovered.{recover-inspects, recovered-text}
 use Rattle.sheet.specs.Sheet.{records, isOf, given, differences, Whole, Placed, SoundBelow}
 use Rattle.sheet.specs.Answer.{Said, corrected, refused}
 use Rattle.sheet.specs.Calls.{sound, Corrects, CorrectTold}
@@ -123,15 +124,26 @@ module _ (kind : Kind) (p l n : ℕ) (tile sheet new : List ℕ) (told : Correct
   -- the one written afresh from its text corrected by the differences
   pub repair-after : (said said′ : answer.Said) (fixed fixed′ : List ℕ) → RepairTold kind p l tile said fixed → RepairTold kind p l new said′ fixed′
       → (said′ ≡ said) × (fixed′ ≡ xored fixed change)
-      × (((m : ℕ) → said ≡ answer.refused m → ⊥) → Writes p l (xored (textOf p fixed) (differences p sheet)) fixed′)
+      × (Granted said → Writes p l (xored (textOf p fixed) (differences p sheet)) fixed′)
   repair-after said said′ fixed fixed′ before after =
       let same = repair-told-once kind p l new said′ said fixed′ (xored fixed change) after
       (rw (← changed told .becomes) at (repair-carried kind p l change (changed told .written .good) before)) in
       (same .0, same .1, λ d. let g = repaired-good d before in rw (← same .1) at (afresh fixed (g .0) (g .1)))
 
+  -- RECOVER, too, answers after the sheet as before, and the text that it gives is the earlier one corrected
+  pub recover-after : {said said′ : answer.Said} {page page′ text text′ : List ℕ} → Granted said → RecoverTold kind p l tile page said text
+      → length page′ ≡ textLength p → RecoverTold kind p l new page′ said′ text′ → (said′ ≡ said) × (text′ ≡ xored text (differences p sheet))
+  recover-after granted (RecoverTold.refuses {n} h) e after = absurd (granted n refl)
+  recover-after granted (RecoverTold.unrepaired {n} h t) e after = absurd (granted n refl)
+  recover-after {said} {said′} granted (RecoverTold.recovers {tile = fixed} h d t) e after =
+      let i = recover-inspects e after in
+      let same = repair-after said said′ fixed (i .tile) t (i .told) in
+      let granted′ : Granted said′ = rw (← same .0) at granted in
+      (same .0, recovered-text granted′ after (i .told) ∙ same .2 granted .has)
+
   -- so whoever writes that text, over whatever tile, has the same tile
   pub write-after : (said said′ wrote : answer.Said) (fixed fixed′ lent afresh′ : List ℕ) → RepairTold kind p l tile said fixed
-      → ((m : ℕ) → said ≡ answer.refused m → ⊥) → RepairTold kind p l new said′ fixed′ → length lent ≡ tileLength p
+      → Granted said → RepairTold kind p l new said′ fixed′ → length lent ≡ tileLength p
       → WriteTold kind p l (xored (textOf p fixed) (differences p sheet)) lent wrote afresh′ → (wrote ≡ answer.done) × (afresh′ ≡ fixed′)
   write-after said said′ wrote fixed fixed′ lent afresh′ before well after e written =
       let w = repair-after said said′ fixed fixed′ before after .2 well in
@@ -159,7 +171,7 @@ module _ (kind : Kind) (p l n : ℕ) (tile sheet new : List ℕ) (told : Correct
 
   -- WHAT IS READ once the sheet is made and the tile repaired: at a place whose records follow each other, what the last one put
   pub last-is : (said said′ read : answer.Said) (fixed fixed′ page text : List ℕ) (i j k : ℕ) → RepairTold kind p l tile said fixed
-      → ((m : ℕ) → said ≡ answer.refused m → ⊥) → RepairTold kind p l new said′ fixed′ → length page ≡ textLength p → ReadTold kind p l fixed′ page read text
+      → Granted said → RepairTold kind p l new said′ fixed′ → length page ≡ textLength p → ReadTold kind p l fixed′ page read text
       → Follows sheet i j (textByte p (textOf p fixed) i j) → Last sheet i j k
       → (read ≡ answer.done) × (textByte p text i j ≡ isOf sheet k)
   last-is said said′ read fixed fixed′ page text i j k before well after e-page reading follows last =
