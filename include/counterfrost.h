@@ -157,7 +157,8 @@ uint64_t cf_inspect(size_t kind, size_t p, size_t l, const uint8_t *scan, size_t
 /*
  * Repairs a scanned tile and reads it, in one call, and leaves the scan as it is. The answer is that of cf_repair, and the text becomes
  * that of the tile which cf_repair would leave: what cf_read gives after cf_repair of a copy. Of a good tile, CF_KIND_DONE, it is what
- * cf_read gives. Refused 1, 2, 3 where the scan or the text has another length, 5 or 8, as cf_repair is; then the text stays as it was.
+ * cf_read gives. Refused 1, 2, 3 where the scan or the text has another length, or 5 or 8 where cf_repair would refuse the scan so. A
+ * refused call leaves the text as it was.
  */
 uint64_t cf_recover(size_t kind, size_t p, size_t l, const uint8_t *scan, size_t scan_len, uint8_t *text, size_t text_len);
 
