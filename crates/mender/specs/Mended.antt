@@ -29,7 +29,7 @@ use Rattle.search.specs.declared.hurt.Hurt.{Hurt}
 use Rattle.search.specs.declared.hurt.Hurt.the-variants as found
 use Rattle.promise.specs.Answer.{Said, clean, refused}
 use Rattle.promise.specs.Calls.{Admitted, TileLength, BothLengths, Looked, Explains, ByLine, Named, RepairTold, is-good, is-hurt, RecoverTold, Has}
-use Rattle.promise.specs.Admit.{admits, admitted-well, slope-of}
+use Rattle.promise.specs.Admit.{admitted-some, slope-of}
 use Rattle.promise.specs.Name.{nth-of, in-more, named-granted, granted-clean}
 use Rattle.promise.specs.Explain.{Unexplained, explains-fills, explains-on, same-good, explains-has, explained}
 use Rattle.promise.specs.Doubt.{line-only, both-only, reach-once, more-several}
@@ -185,17 +185,14 @@ module _ (kind : Kind) (p l : ℕ) (x : List ℕ) (X : ℕ → ℕ) (a : Admitte
   repair-ends f doubtful = ends-doubtful f
 
 -- and RECOVER ENDS RIGHT, with the text of that tile
-pub recover-ends : (kind : Kind) (p l : ℕ) (scan text : List ℕ) (X : ℕ → ℕ) → Admitted kind p l (BothLengths p scan text) size.well
-    → {which : Hurt} {s : Said} {new : List ℕ} → hurt.Found p l (sum p 1 (cell p scan)) (sum p l (cell p scan)) X which → Told p X which s
-    → Recovered p X which scan text new → RecoverTold kind p l scan text s new
-recover-ends kind p l scan text X h {which} {s} {new} f t e = go t f e
-  where
-    one : Admitted kind p l (TileLength p scan) size.well
-    one = let w = admitted-well h in admits (w .0) (w .1) (w .2 .0)
+module _ (kind : Kind) (p l : ℕ) (scan text : List ℕ) (X : ℕ → ℕ) (a : Admitted kind p l (BothLengths p scan text) size.well) where
+  tile-admitted : Admitted kind p l (TileLength p scan) size.well
+  tile-admitted = admitted-some (λ lengths. lengths .0) a
 
-    go : {which : Hurt} {s : Said} {new : List ℕ} → Told p X which s → hurt.Found p l (sum p 1 (cell p scan)) (sum p l (cell p scan)) X which
-        → Recovered p X which scan text new → RecoverTold kind p l scan text s new
-    go nothing f e = rw e (RecoverTold.recovers h granted-clean (repair-ends kind p l scan X one f nothing))
-    go (line c) f e = rw e (RecoverTold.recovers h (named-granted (named kind p l scan X one f c)) (repair-ends kind p l scan X one f (line c)))
-    go more f e = rw e (RecoverTold.unrepaired h (record { tile = scan; told = repair-ends kind p l scan X one f more }))
-    go doubtful f e = rw e (RecoverTold.unrepaired h (record { tile = scan; told = repair-ends kind p l scan X one f doubtful }))
+  pub recover-ends : {which : Hurt} {s : Said} {new : List ℕ} → hurt.Found p l (sum p 1 (cell p scan)) (sum p l (cell p scan)) X which → Told p X which s
+      → Recovered p X which scan text new → RecoverTold kind p l scan text s new
+  recover-ends f nothing e = rw e (RecoverTold.recovers a granted-clean (repair-ends kind p l scan X tile-admitted f nothing))
+  recover-ends f (line c) e =
+      rw e (RecoverTold.recovers a (named-granted (named kind p l scan X tile-admitted f c)) (repair-ends kind p l scan X tile-admitted f (line c)))
+  recover-ends f more e = rw e (RecoverTold.unrepaired a (record { tile = scan; told = repair-ends kind p l scan X tile-admitted f more }))
+  recover-ends f doubtful e = rw e (RecoverTold.unrepaired a (record { tile = scan; told = repair-ends kind p l scan X tile-admitted f doubtful }))

@@ -37,9 +37,12 @@ admitted-once k p l Lengths a b (admitted i h) (judged j) = absurd (judged-no j 
 admitted-once k p l Lengths a b (admitted i h) (no-length j f) = absurd (f h)
 admitted-once k p l Lengths a b (admitted j h) (admitted i g) = refl
 
--- what goes on is judged well, and what is refused for a length alone is refused for that length and others
+-- what goes on is judged well, and goes on where fewer lengths are asked for; what is refused is refused where more are
 pub admitted-judged : {k : Kind} {p l : ℕ} {Lengths : Type 0} → Admitted k p l Lengths size.well → size.Judged k p l size.well
 admitted-judged (admitted j h) = j
+
+pub admitted-some : {k : Kind} {p l : ℕ} {Lengths Some : Type 0} → (Lengths → Some) → Admitted k p l Lengths size.well → Admitted k p l Some size.well
+admitted-some f (admitted j h) = admitted j (f h)
 
 pub admitted-more : {k : Kind} {p l n : ℕ} {Lengths More : Type 0} → (More → Lengths) → Admitted k p l Lengths (size.refused n) → Admitted k p l More (size.refused n)
 admitted-more f (judged j) = judged j

@@ -75,11 +75,14 @@ module _ {p : ℕ} {x y : List ℕ} where
   named-in (by-column m) = omega (arith, m .within _ _ (m .one), m .one .column)
   named-in (by-row m) = omega (arith, m .within _ _ (m .one), m .one .row)
 
-  -- no difference is named by a refusal
-  pub named-granted : {s : Said} → Named p x y s → Granted s
-  named-granted n m e = named-in (rw e at n)
+-- what names a cell or a line is no refusal, and so the name of a difference is none
+pub in-granted : (p : ℕ) (s : Said) → InTile p s → Granted s
+in-granted p s h n e = rw e at h
 
--- nor is a tile that is clean refused
+pub named-granted : {p : ℕ} {x y : List ℕ} {s : Said} → Named p x y s → Granted s
+named-granted {p} {s = s} n = in-granted p s (named-in n)
+
+-- nor is clean
 pub granted-clean : Granted clean
 granted-clean n e = let z : _≡_ {A = ℕ} 0 1 = cc in omega arith
 

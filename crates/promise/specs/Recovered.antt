@@ -12,7 +12,7 @@ use Rattle.code.specs.declared.Kind.{Kind}
 use Rattle.code.specs.declared.Line.{Line}
 use Rattle.promise.specs.Answer.{Said, done, clean, refused}
 use Rattle.promise.specs.Calls.{BothLengths, WriteTold, ReadTold, RepairTold, InspectTold, Granted, RecoverTold}
-use Rattle.promise.specs.Admit.{admits, admitted-well, admitted-no, admitted-more}
+use Rattle.promise.specs.Admit.{admits, admitted-well, admitted-no, admitted-some, admitted-more}
 use Rattle.promise.specs.Name.{granted-clean}
 use Rattle.promise.specs.Once.{read-told-once, repair-told-once, inspect-told-once, recover-told-once}
 use Rattle.promise.specs.Kinds.{recover-sure}
@@ -72,9 +72,8 @@ module _ {k : Kind} {p l : ℕ} {scan text : List ℕ} where
       let e = recover-told-once k p l scan text said (refused n) new text t (RecoverTold.refuses h) in ((λ q. cc, λ q. cc), e .1)
   recovered-good g t (ReadTold.not-good h f) = absurd (f g)
   recovered-good {said} {new = new} g t (ReadTold.reads h f) =
-      let w = admitted-well h in
       let e = recover-told-once k p l scan text said clean new (textOf p scan) t
-      (RecoverTold.recovers h granted-clean (RepairTold.is-good (admits (w .0) (w .1) (w .2 .0)) g)) in
+      (RecoverTold.recovers h granted-clean (RepairTold.is-good (admitted-some (λ l. l .0) h) g)) in
       ((λ q. refl, λ q. e .0), e .1)
 
 -- ---- what was written

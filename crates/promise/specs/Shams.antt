@@ -134,7 +134,7 @@ inspects-first t = takes-column (t .tile) (t .told)
 pub reads-unrepaired : (k : Kind) (said : Said) → RecoverTold k 5 2 tile-5 nines said (1 ∷ 0 ∷ 1 ∷ 0 ∷ 0 ∷ 0 ∷ 0 ∷ 0 ∷ []) → ⊥
 reads-unrepaired k said = wrong-bytes (RecoverTold k 5 2 tile-5 nines) (recovery-claimed 27 k .0) said _ (λ e. cc)
 
--- one that takes the change off in the wrong column, the next one
+-- one that mends the column beside the hurt one
 pub wrong-column : (k : Kind) (said : Said) → RecoverTold k 5 2 tile-5 nines said (1 ∷ 1 ∷ 1 ∷ 1 ∷ 0 ∷ 0 ∷ 0 ∷ 0 ∷ []) → ⊥
 wrong-column k said = wrong-bytes (RecoverTold k 5 2 tile-5 nines) (recovery-claimed 27 k .0) said _ (λ e. cc)
 
@@ -142,7 +142,7 @@ wrong-column k said = wrong-bytes (RecoverTold k 5 2 tile-5 nines) (recovery-cla
 pub check-in-text : (k : Kind) (said : Said) → RecoverTold k 5 2 tile-8 nines said (1 ∷ 1 ∷ 0 ∷ 0 ∷ 0 ∷ 0 ∷ 0 ∷ 1 ∷ []) → ⊥
 check-in-text k said = wrong-bytes (RecoverTold k 5 2 tile-8 nines) (recovery-claimed 29 k .0) said _ (λ e. cc)
 
--- one that leaves a text behind when it refuses: of any scan, at any size and slope, and with any number
+-- one that writes to the text though it refuses: of any scan, at any size and slope, and with any number
 pub leaves-text : {k : Kind} {p l n : ℕ} {scan text new : List ℕ} → (new ≡ text → ⊥) → RecoverTold k p l scan text (refused n) new → ⊥
 leaves-text d r = d (recover-refused r)
 

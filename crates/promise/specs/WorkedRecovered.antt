@@ -11,9 +11,10 @@ use Rattle.code.specs.declared.Kind.{Kind}
 use Rattle.code.specs.declared.Kind.the-variants.{Old}
 use Rattle.size.specs.Answer as size
 use Rattle.size.specs.Shams.{size-5, size-7}
-use Rattle.promise.specs.Answer.{Said, done, clean, column, row, refused}
+use Rattle.promise.specs.Answer.{Said, clean, column, row, refused}
 use Rattle.promise.specs.Calls.{Admitted, BothLengths, RepairTold, InspectTold, Granted, RecoverTold}
 use Rattle.promise.specs.Admit.{admits}
+use Rattle.promise.specs.Name.{in-granted, granted-clean}
 use Rattle.promise.specs.Once.{inspect-told-once, recover-told-once}
 use Rattle.promise.specs.Decide.{same, Each, numbered}
 use Rattle.promise.specs.Worked.{Exactly, exactly, claimed, other-claimed, taken-5-2, zeros, text-2, tile-2, tile-4, tile-5, tile-6, tile-7, tile-8, repaired-8}
@@ -50,18 +51,6 @@ cases =
     ∷ recovery tile-7 (refused 5) nines
     ∷ []
 
--- 1 of a refusal, 0 of all else; so what has 0 is none
-abbrev refusing : Said → ℕ
-refusing done = 0
-refusing clean = 0
-refusing (Said.cell r c) = 0
-refusing (column c) = 0
-refusing (row r) = 0
-refusing (refused n) = 1
-
-granted : (s : Said) → refusing s ≡ 0 → Granted s
-granted s z n e = let q : refusing s ≡ refusing (refused n) = cc in omega arith
-
 -- a scan of the right length is admitted, with nines
 admitted : (k : Kind) (scan : List ℕ) → length scan ≡ tileLength 5 → Admitted k 5 2 (BothLengths 5 scan nines) size.well
 admitted k scan e = admits size-5 (taken-5-2 k) (e, refl)
@@ -73,30 +62,22 @@ claim {scan} {tile} {said} {text} r t k =
     let i : InspectTold k 5 2 scan said = record { tile = tile; told = t k .0 } in
     (exactly (RecoverTold k 5 2 scan nines) (recover-told-once k 5 2 scan nines) said text (r k), i, λ u v. inspect-told-once k 5 2 scan u said v i)
 
-by-repair : {scan tile : List ℕ} {said : Said} (text : List ℕ) → length scan ≡ tileLength 5 → refusing said ≡ 0 → textOf 5 tile ≡ text
+by-repair : {scan tile : List ℕ} {said : Said} (text : List ℕ) → length scan ≡ tileLength 5 → Granted said → textOf 5 tile ≡ text
     → ((k : Kind) → Exactly (RepairTold k 5 2 scan) said tile) → Claim (recovery scan said text)
-by-repair {scan} {tile} {said} text e z q t = claim (λ k. rw (← q) (RecoverTold.recovers (admitted k scan e) (granted said z) (t k .0))) t
+by-repair {scan} {tile} {said} text e d q t = claim (λ k. rw (← q) (RecoverTold.recovers (admitted k scan e) d (t k .0))) t
 
 -- THE WORKED RECOVERIES: every claim of the list holds
 pub recovered : Each Claim cases
 unfolding same cell place textFrom textOf tabulate
 recovered =
-    let none = same (textOf 5 zeros) zeros-text .shows tt in (
-      by-repair text-2 refl refl (same (textOf 5 tile-2) text-2 .shows tt) (other-claimed 4),
-      (
-        by-repair zeros-text refl refl none (claimed 4),
-        (
-          by-repair zeros-text refl refl none (claimed 5),
-          (
-            by-repair zeros-text refl refl none (claimed 6),
-            (
-              by-repair text-8 refl refl (same (textOf 5 repaired-8) text-8 .shows tt) (claimed 8),
-              (claim (λ k. RecoverTold.unrepaired (admitted k tile-7 refl) (record { tile = tile-7; told = claimed 7 k .0 })) (claimed 7), tt),
-            ),
-          ),
-        ),
-      ),
-    )
+    let none = same (textOf 5 zeros) zeros-text .shows tt in
+    let of-2 : Claim (recovery tile-2 clean text-2) = by-repair text-2 refl granted-clean (same (textOf 5 tile-2) text-2 .shows tt) (other-claimed 4) in
+    let of-4 : Claim (recovery tile-4 (Said.cell 2 3) zeros-text) = by-repair zeros-text refl (in-granted 5 (Said.cell 2 3) (omega arith, omega arith)) none (claimed 4) in
+    let of-5 : Claim (recovery tile-5 (column 0) zeros-text) = by-repair zeros-text refl (in-granted 5 (column 0) (omega arith)) none (claimed 5) in
+    let of-6 : Claim (recovery tile-6 (row 0) zeros-text) = by-repair zeros-text refl (in-granted 5 (row 0) (omega arith)) none (claimed 6) in
+    let of-8 : Claim (recovery tile-8 (column 3) text-8) = by-repair text-8 refl (in-granted 5 (column 3) (omega arith)) (same (textOf 5 repaired-8) text-8 .shows tt) (claimed 8) in
+    let of-7 : Claim (recovery tile-7 (refused 5) nines) = claim (λ k. RecoverTold.unrepaired (admitted k tile-7 refl) (record { tile = tile-7; told = claimed 7 k .0 })) (claimed 7) in
+    (of-2, (of-4, (of-5, (of-6, (of-8, (of-7, tt))))))
 
 -- the claim of a case by its number in SPEC 10
 pub recovery-claimed : (k : ℕ) → Claim (getD cases (k - 25) (recovery tile-2 clean text-2))
