@@ -1,7 +1,8 @@
--- WHAT A READER MUST BELIEVE: the house slope of a size, and the rule of a table of house slopes (SPEC 2.3). Assumes nothing.
+-- WHAT A READER MUST BELIEVE: the house slope of a size, the rule of a table of house slopes, and what is told of a number that is looked
+-- up in it (SPEC 2.3). Assumes nothing.
 use mathlib.Core.Path.{_≡_}
 use mathlib.Core.List.{List}
-use Prim.Native.Nat.{ℕ, _/_, _%_, _<_}
+use Prim.Native.Nat.{ℕ, _<_}
 use lib.ListN.{length, getD}
 use Rattle.residue.specs.Size.{Size, Allowed}
 
@@ -10,22 +11,21 @@ pub record HouseSlope (p l : ℕ) : Type 0 where
   pub allowed : Allowed p l
   pub least : (j : ℕ) → j < l → Allowed p j → ⊥
 
--- SPEC 2.3: the size and the slope of an entry of the table: its last two digits are the slope
-abbrev pub entrySize : ℕ → ℕ
-entrySize e = e / 100
-
-abbrev pub entrySlope : ℕ → ℕ
-entrySlope e = e % 100
-
--- SPEC 2.3: the k-th entry of a table; past the end, 0
+-- SPEC 2.3: the k-th number of a list; past the end, 0
 abbrev pub entryAt : List ℕ → ℕ → ℕ
 entryAt t k = getD t k 0
 
--- SPEC 2.3: an entry that is right: its size is a size, and its slope the house slope of that size
-abbrev pub HouseEntry : ℕ → Type 0
-HouseEntry e = Size (entrySize e) × HouseSlope (entrySize e) (entrySlope e)
+-- SPEC 2.3: an entry that is right: p is a size, and l its house slope
+abbrev pub HouseEntry : ℕ → ℕ → Type 0
+HouseEntry p l = Size p × HouseSlope p l
 
--- SPEC 2.3: the rule: each entry is right, and what no entry has is no size
-pub record HouseTable (t : List ℕ) : Type 0 where
-  pub each : (k : ℕ) → k < length t → HouseEntry (entryAt t k)
-  pub every : (p : ℕ) → ((k : ℕ) → k < length t → entrySize (entryAt t k) ≡ p → ⊥) → Size p → ⊥
+-- SPEC 2.3: the rule of a table, which is a list of sizes and a list of slopes: each size is right with the slope at its place, and what is
+-- not among the sizes is no size
+pub record HouseTable (sizes slopes : List ℕ) : Type 0 where
+  pub each : (k : ℕ) → k < length sizes → HouseEntry (entryAt sizes k) (entryAt slopes k)
+  pub every : (p : ℕ) → ((k : ℕ) → k < length sizes → entryAt sizes k ≡ p → ⊥) → Size p → ⊥
+
+-- SPEC 2.3: what is told of p: its house slope where it is a size, and 0 where it is none
+pub data SlopeTold (p : ℕ) : ℕ → Type 0 where
+  no-size : (Size p → ⊥) → SlopeTold p 0
+  of-size : {l : ℕ} → Size p → HouseSlope p l → SlopeTold p l

@@ -1,68 +1,133 @@
-// The table of house slopes. Its rule is tested here, once, where the table is all that there is to look at; the crate `size` looks things
-// up in it.
-ghost use Rattle.house.specs.House.{HouseTable};
+// The table of house slopes, and the look-up in it. Its rule is tested here, once, where the table is all that there is to look at.
+ghost use Rattle.house.specs.House.{SlopeTold};
 
-// Every size, with its house slope, the smallest slope that it allows. The last two digits of an entry are the slope, and those before them the
-// size: 191_19 is the size 191 with the slope 19. (An array of plain numbers is proved in a fifth of the time that one of pairs takes.)
-const HOUSE_SLOPES: [usize; 53] = [
-    5_02,
-    7_03,
-    11_02,
-    13_02,
-    17_03,
-    19_02,
-    23_05,
-    29_02,
-    31_03,
-    37_02,
-    41_06,
-    43_03,
-    47_05,
-    53_02,
-    59_02,
-    61_02,
-    67_02,
-    71_07,
-    73_05,
-    79_03,
-    83_02,
-    89_03,
-    97_05,
-    101_02,
-    103_05,
-    107_02,
-    109_06,
-    113_03,
-    127_03,
-    131_02,
-    137_03,
-    139_02,
-    149_02,
-    151_06,
-    157_05,
-    163_02,
-    167_05,
-    173_02,
-    179_02,
-    181_02,
-    191_19,
-    193_05,
-    197_02,
-    199_03,
-    211_02,
-    223_03,
-    227_02,
-    229_06,
-    233_03,
-    239_07,
-    241_07,
-    251_06,
-    257_03,
+// Every size, in rising order ..
+const SIZES: [usize; 53] = [
+    5,
+    7,
+    11,
+    13,
+    17,
+    19,
+    23,
+    29,
+    31,
+    37,
+    41,
+    43,
+    47,
+    53,
+    59,
+    61,
+    67,
+    71,
+    73,
+    79,
+    83,
+    89,
+    97,
+    101,
+    103,
+    107,
+    109,
+    113,
+    127,
+    131,
+    137,
+    139,
+    149,
+    151,
+    157,
+    163,
+    167,
+    173,
+    179,
+    181,
+    191,
+    193,
+    197,
+    199,
+    211,
+    223,
+    227,
+    229,
+    233,
+    239,
+    241,
+    251,
+    257,
 ];
 
-// The table: each entry is a size with its house slope, and every size has an entry.
-pub fn table() -> [usize; 53]
-    ensures { λ r. ⌜ HouseTable r ⌝ }
+// .. and for each, at the same place, its house slope: the smallest slope that it allows.
+const SLOPES: [usize; 53] = [
+    2,
+    3,
+    2,
+    2,
+    3,
+    2,
+    5,
+    2,
+    3,
+    2,
+    6,
+    3,
+    5,
+    2,
+    2,
+    2,
+    2,
+    7,
+    5,
+    3,
+    2,
+    3,
+    5,
+    2,
+    5,
+    2,
+    6,
+    3,
+    3,
+    2,
+    3,
+    2,
+    2,
+    6,
+    5,
+    2,
+    5,
+    2,
+    2,
+    2,
+    19, // of 191
+    5,
+    2,
+    3,
+    2,
+    3,
+    2,
+    6,
+    3,
+    7,
+    7,
+    6,
+    3,
+];
+
+// The house slope of p; 0 where p is no size. (The loop compares and does nothing else, so that the compiler looks the answer up in its own
+// constants, and puts no copy of the table on the stack.)
+pub fn slope(p: usize) -> usize
+    ensures { λ r. ⌜ SlopeTold p r ⌝ }
 {
-    HOUSE_SLOPES
+    let sizes = SIZES;
+    let slopes = SLOPES;
+    let mut i = 0;
+    while i < 53 {
+        if sizes[i] == p {
+            return slopes[i];
+        }
+        i += 1;
+    }
+    0
 }

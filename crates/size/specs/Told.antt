@@ -1,9 +1,21 @@
--- What an answer tells of the size and the slope that were asked about. Assumes nothing.
+-- What is answered to what the table tells, and what an answer tells of the size and the slope that were asked about. Assumes nothing.
+use mathlib.Core.Path.{_≡_, refl}
 use Prim.Native.Nat.{ℕ}
+use native.Mathlib.Omega.{arith}
 use Rattle.residue.specs.Size.{Size, Allowed}
 use Rattle.code.specs.Kind.{Takes, allowed-taken}
 use Rattle.code.specs.declared.Kind.{Kind}
+use Rattle.house.specs.House as house
 use Rattle.size.specs.Answer.{Said, slope, well, refused, HouseTold, given, no-size, Judged, taken, no-slope}
+
+-- where the table tells 0 the answer is refusal 1, since a house slope is 2 and more, and where it tells another number it is that slope
+pub told-none : {p l : ℕ} → house.SlopeTold p l → l ≡ 0 → HouseTold p (refused 1)
+told-none (house.no-size f) e = no-size f
+told-none (house.of-size s h) e = absurd (omega (arith, h .allowed .low))
+
+pub told-some : {p l : ℕ} → house.SlopeTold p l → (l ≡ 0 → ⊥) → HouseTold p (slope l)
+told-some (house.no-size f) n = absurd (n refl)
+told-some (house.of-size s h) n = given s h
 
 -- what is given a house slope is a size, and what is refused one is none
 pub given-size : {p l : ℕ} → HouseTold p (slope l) → Size p

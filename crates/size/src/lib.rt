@@ -50,16 +50,11 @@ pub enum House {
 pub fn house_slope(p: usize) -> House
     ensures { λ r. ⌜ HouseTold p (houseSaid r) ⌝ }
 {
-    let entries = house::table();
-    let mut i = 0;
-    while i < 53 {
-        let entry = entries[i];
-        if entry / 100 == p {
-            return House::Slope(entry % 100);
-        }
-        i += 1;
+    let slope = house::slope(p);
+    if slope == 0 {
+        return House::Refused(Refusal::BadSize);
     }
-    House::Refused(Refusal::BadSize)
+    House::Slope(slope)
 }
 
 // Is p a size?
