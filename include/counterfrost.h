@@ -75,13 +75,14 @@
  *
  * WHO OWNS WHAT
  *   All memory is yours. A call uses it until it returns, and keeps no pointer; it allocates nothing, and holds no state, so calls may
- *   run on several threads at once, each on memory of its own. It needs less than six kilobytes of stack. Each pointer must point to as
- *   many bytes as its length says, and must not be null, not even where the length is 0. What is written to (a tile, a text, a
- *   number) must not overlap anything else that is lent to the same call. What is const is not changed.
+ *   run on several threads at once, each on memory of its own. cf_write, cf_fill and cf_correct need at most two kilobytes of
+ *   stack, what a reader calls (cf_read, cf_repair, cf_inspect, cf_recover and cf_judge) at most one and a quarter, and all others at most
+ *   half of one. Each pointer must point to as many bytes as its length says, and must not be null, not even where the length is 0. What
+ *   is written to (a tile, a text, a number) must not overlap anything else that is lent to the same call. What is const is not changed.
  *
  * What each call answers, and what it leaves in the memory that it was lent, is proved, for every size, slope, length and byte: in the
  * repository, crates/counterfrost holds the code and docs/PROMISES.md says what is shown. The compiler is not covered by the proof; the
- * archive is tested against a second implementation. The depth of the stack is measured.
+ * archive is tested against a second implementation. The depth of the stack is measured, call by call, and held to these numbers.
  */
 #ifndef COUNTERFROST_H
 #define COUNTERFROST_H
@@ -95,8 +96,8 @@ extern "C" {
 
 /* The version of this header: 10000 times the first of its numbers, 100 times the second, and the third. cf_version gives that of the
  * library. Until 1.0.0 calls may change where the second number does; the shared library is named by these two. */
-#define CF_VERSION 600
-#define CF_VERSION_TEXT "0.6.0"
+#define CF_VERSION 601
+#define CF_VERSION_TEXT "0.6.1"
 
 /* The kinds of a tile, which a call is told before p and l, and which cf_next gives back. Any number but 1 counts as new. */
 #define CF_NEW 0u

@@ -9,6 +9,7 @@ use lib.Dec.{eqb}
 use Rattle.xor.specs.Xor.{_⊕_, comm, self, zero-r}
 use Rattle.xor.specs.Sum.{xorBelow, ext, keep-zero}
 use Rattle.residue.specs.Power.{ReachesAll}
+use Rattle.residue.specs.Remainder.{same}
 use Rattle.code.specs.Slope.{Slope, slope-inverse}
 use Rattle.code.specs.Tile.{Cells, line, sum}
 use Rattle.code.specs.Sums.{plus, totals}
@@ -24,7 +25,7 @@ use Rattle.code.specs.declared.Line.{Line}
 use Rattle.code.specs.declared.Line.the-variants.{Row, Column}
 use Rattle.code.specs.Held.{held}
 use Rattle.walk.specs.Sums.{Sums}
-use Rattle.search.specs.Column.{Shifted}
+use Rattle.walk.specs.Along.{Stepping, Shifted}
 use Rattle.classes.specs.Many.{SettledSome, CrossedMany, no-crossed, one-crossed, several-crossed}
 use Rattle.classes.specs.declared.Fillings.{Fillings}
 use Rattle.classes.specs.declared.Fillings.the-variants as fillings
@@ -34,9 +35,13 @@ use Rattle.chain.specs.Solve.{SettledBy, Solved, none, one, several, Clo
 pub held-totals : (p l : ℕ) (T : Cells) (a b : List ℕ) → Sums p 1 T a → Sums p l T b → xorBelow p (held a) ≡ xorBelow p (held b)
 held-totals p l T a b ha hb = ext p (held a) (sum p 1 T) ha ∙ totals p 1 l T ∙ sym (ext p (held b) (sum p l T) hb)
 
--- and so have those of the turned tile
-pub held-turned : (p l : ℕ) (A B B′ : ℕ → ℕ) → Slope p l → ((t : ℕ) → t < p → B′ t ≡ B (l * t % p)) → xorBelow p A ≡ xorBelow p B → xorBelow p A ≡ xorBelow p B′
-held-turned p l A B B′ S h e = e ∙ sym (ext p B′ (λ t. B (l * t % p)) h ∙ turned-total p l B S)
+-- the sums of the turned tile are every l-th of those of slope l
+turned-sums : (p l : ℕ) (B B′ : ℕ → ℕ) → Stepping p 0 l B B′ → (t : ℕ) → t < p → B′ t ≡ B (l * t % p)
+turned-sums p l B B′ h t q = h t q ∙ ap B (same p (omega arith))
+
+-- and they have that total too
+pub held-turned : (p l : ℕ) (A B B′ : ℕ → ℕ) → Slope p l → Stepping p 0 l B B′ → xorBelow p A ≡ xorBelow p B → xorBelow p A ≡ xorBelow p B′
+held-turned p l A B B′ S h e = e ∙ sym (ext p B′ (λ t. B (l * t % p)) (turned-sums p l B B′ h) ∙ turned-total p l B S)
 
 -- two lines are sure in either order
 sure-either : (p l : ℕ) (a b : Line) → Sure p l a b → Sure p l b a
@@ -74,19 +79,21 @@ module _ (p l : ℕ) (a b : Line) (A B : ℕ → ℕ) (x y : ℕ → ℕ) where
   solved-either (several d s) = several (λ h. d (sure-either p l b a h)) (some-either p l a b A B s)
 
 -- rows are columns of the turned tile, whose slope is the inverse m
-pub solved-rows : (p l m r s : ℕ) (A B B′ x y : ℕ → ℕ) {many : Fillings} → l * m % p ≡ 1 → ((t : ℕ) → t < p → B′ t ≡ B (l * t % p))
+pub solved-rows : (p l m r s : ℕ) (A B B′ x y : ℕ → ℕ) {many : Fillings} → l * m % p ≡ 1 → Stepping p 0 l B B′
     → Solved p m (Column r) (Column s) A B′ x y many → Solved p l (Row r) (Row s) A B x y many
 solved-rows p l m r s A B B′ x y inverse h (one sure t) = one (inl tt) (record {
   settles =
       turned-settles p l m inverse A B (plus (along (Row r) x) (along (Row s) y))
-      (settles-sums p m A B′ A (λ t. B (l * t % p)) (plus (along (Column r) x) (along (Column s) y)) (λ t q. refl) h (t .settles));
+      (settles-sums p m A B′ A (λ t. B (l * t % p)) (plus (along (Column r) x) (along (Column s) y))
+      (λ t q. refl) (turned-sums p l B B′ h) (t .settles));
   first = t .first;
   second = t .second;
 })
 solved-rows p l m r s A B B′ x y inverse h (none f) = none (λ t. f (record {
   by = turned (t .by);
   settles =
-      settles-sums p m A (λ t. B (l * t % p)) A B′ (turned (t .by)) (λ t q. refl) (λ t q. sym (h t q)) (settles-turned p l m inverse A B (t .by) (t .settles));
+      settles-sums p m A (λ t. B (l * t % p)) A B′ (turned (t .by)) (λ t q. refl) (λ t q. sym (turned-sums p l B B′ h t q))
+      (settles-turned p l m inverse A B (t .by) (t .settles));
   padded = padded-turned p (t .by) (t .padded);
   off = λ i j hi hj d e. t .off j i hj hi d e;
 }))

@@ -2,5 +2,6 @@
 pub mod Back
 pub mod Hand
 pub mod Solve
+pub mod Agree
 pub mod Cases
 pub mod Settled

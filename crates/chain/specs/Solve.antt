@@ -15,7 +15,7 @@ use Rattle.code.specs.Fillings.{Sure}
 use Rattle.code.specs.declared.Line.{Line}
 use Rattle.code.specs.declared.Line.the-variants.{Row, Column}
 use Rattle.walk.specs.Fill.{through-once}
-use Rattle.search.specs.Column.{Along, TakenOff}
+use Rattle.walk.specs.Along.{Along, TakenOff}
 use Rattle.classes.specs.Many.{SettledSome}
 use Rattle.classes.specs.declared.Fillings.{Fillings}
 use Rattle.classes.specs.declared.Fillings.the-variants as fillings

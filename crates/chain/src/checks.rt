@@ -28,9 +28,9 @@ pub fn settle(p: usize, l: usize, a: &[u8; 257], b: &[u8; 257], tile: &mut [u8])
         column: first,
         line: Line::Column(second),
     };
-    let changes = pair::solve(checks, a, b);
-    let x = changes.column;
-    let y = changes.line;
+    let mut x = [0u8; 257];
+    let mut y = [0u8; 257];
+    pair::solve(checks, a, b, &mut x, &mut y);
     add_line(p, Line::Column(first), &x, tile);
     add_line(p, Line::Column(second), &y, tile);
 }

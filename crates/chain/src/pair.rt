@@ -1,8 +1,8 @@
 // A hurt column together with a second hurt line, a column or a row. The chain between them begins at the column's added zero. By a
 // line of slope 1 it comes to a symbol of the second line, from there by a line of slope l to one of the column, and so further.
 use code::Line;
-use search::column::along;
-use search::column::take_off_common;
+use walk::along::along;
+use walk::along::take_off_common;
 use walk::index::number;
 use walk::index::step;
 use walk::index::through;
@@ -25,25 +25,20 @@ pub struct Pair {
     pub line: Line,
 }
 
-// The change in the column, and that in the second line.
-pub struct Changes {
-    pub column: [u8; 257],
-    pub line: [u8; 257],
-}
-
-// The changes that settle the sums a and b.
-pub fn solve(pair: Pair, a: &[u8; 257], b: &[u8; 257]) -> Changes
+// Puts into x the change in the column, and into y that in the second line, which settle the sums a and b.
+pub fn solve(pair: Pair, a: &[u8; 257], b: &[u8; 257], x: &mut [u8; 257], y: &mut [u8; 257])
     requires { ⌜ Slope (pair .p) (pair .l) ⌝ }
     requires { ⌜ (pair .p ≤ 257) × (pair .column < pair .p) × (law.number (pair .line) < pair .p) ⌝ }
     requires { ⌜ Closes (pair .p) (pair .l) (pair .column) (pair .line) (held (now a)) (held (now b)) ⌝ }
-    ensures { λ r. ⌜ SettledBy (pair .p) (pair .l) (Column (pair .column)) (pair .line) (held (now (a .entry))) (held (now (b .entry))) (held (r .column)) (held (r .line)) ⌝ }
+    requires { ⌜ (length (now x) ≡ 257) × (length (now y) ≡ 257) ⌝ }
+    ensures { λ _. ⌜ SettledBy (pair .p) (pair .l) (Column (pair .column)) (pair .line) (held (now (a .entry))) (held (now (b .entry))) (held (now (x .exit))) (held (now (y .exit))) ⌝ }
 {
     let p = pair.p;
     let l = pair.l;
     let c = pair.column;
     let line = pair.line;
-    let mut x = [0u8; 257];
-    let mut y = along(p, line, a);
+    *x = [0u8; 257];
+    along(p, number(line), 1, a, y);
     let base = through(p, l, line, 0);
     // each hop fills a symbol of the second line, and each but the last one of the column
     let unfilled = 2 * hops(p, line) - 1;
@@ -56,13 +51,12 @@ pub fn solve(pair: Pair, a: &[u8; 257], b: &[u8; 257]) -> Changes
         l * c % p,
         a,
         b,
-        &mut x,
-        &mut y,
+        x,
+        y,
         p - 1,
         unfilled,
     );
-    take_off_common(p, &mut y);
-    Changes { column: x, line: y }
+    take_off_common(p, y);
 }
 
 // How many hops there are from the column to the second line: one for each cell but the crossing.

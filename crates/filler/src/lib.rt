@@ -20,11 +20,9 @@ pub fn fill(kind: Kind, p: usize, l: usize, tile: &mut [u8], first: Line, second
         Judgement::Refused(refusal) => Outcome::Refused(refusal),
         Judgement::Taken => {
             if has_both(p, first, second) {
-                let filling = filling::solve(kind, p, l, tile, first, second);
-                let many = filling.many;
-                let x = filling.first;
-                let y = filling.second;
-                match many {
+                let mut x = [0u8; 257];
+                let mut y = [0u8; 257];
+                match filling::solve(kind, p, l, tile, first, second, &mut x, &mut y) {
                     Fillings::None => Outcome::Refused(Refusal::Damaged),
                     Fillings::Several => Outcome::Refused(Refusal::Doubtful),
                     Fillings::One => {

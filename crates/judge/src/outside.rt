@@ -18,7 +18,8 @@ pub(crate) fn agree_outside(
     requires { ⌜ TwoTiles p (length (now scan)) (length (now restored)) ⌝ }
     ensures { λ r. ⌜ Says r (EqualOutsideBoth p first second (now (scan .entry)) (now (restored .entry))) ⌝ }
 {
-    let marks = mark_columns(p, scan, restored, first, second);
+    let mut marks = [0u8; 257];
+    mark_columns(p, scan, restored, first, second, &mut marks);
     let mut j = 0;
     while j < p - 1 {
         if marks[j] != 0 {
@@ -33,19 +34,25 @@ pub(crate) fn agree_outside(
 
 // Marks each column in which some row that is neither of the two lines differs; the others are 0. (The tiles are walked row by row, as they
 // lie in memory, and all columns of a row are compared at once.)
-fn mark_columns(p: usize, scan: &[u8], restored: &[u8], first: Line, second: Line) -> [u8; 257]
+fn mark_columns(
+    p: usize,
+    scan: &[u8],
+    restored: &[u8],
+    first: Line,
+    second: Line,
+    marks: &mut [u8; 257],
+)
     requires { ⌜ TwoTiles p (length (now scan)) (length (now restored)) ⌝ }
-    ensures { λ r. ⌜ RowsMarked p (now (scan .entry)) (now (restored .entry)) first second (p - 1) r ⌝ }
+    ensures { λ _. ⌜ RowsMarked p (now (scan .entry)) (now (restored .entry)) first second (p - 1) (now (marks .exit)) ⌝ }
 {
-    let mut marks = [0u8; 257];
+    *marks = [0u8; 257];
     let mut i = 0;
     while i < p - 1 {
         if !is_one_of(Line::Row(i), first, second) {
-            mark_row(scan, restored, i * (p - 1), p - 1, &mut marks);
+            mark_row(scan, restored, i * (p - 1), p - 1, marks);
         }
         i += 1;
     }
-    marks
 }
 
 // Marks the places at which a run of `count` bytes, which begins at `start` in both tiles, differs.

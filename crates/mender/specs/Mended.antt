@@ -22,7 +22,7 @@ use Rattle.size.specs.Answer as size
 use Rattle.walk.specs.Sums.{AllOne}
 use Rattle.walk.specs.Good.{one-good, good-one}
 use Rattle.cells.specs.Change.{Added, changed-good, changed, changed-added, changed-length}
-use Rattle.search.specs.Column.{Shifted}
+use Rattle.walk.specs.Along.{Shifted}
 use Rattle.search.specs.Hurt as hurt
 use Rattle.search.specs.Hurt.{Once}
 use Rattle.search.specs.declared.hurt.Hurt.{Hurt}

@@ -31,9 +31,10 @@ pub fn repair(kind: Kind, p: usize, l: usize, tile: &mut [u8]) -> Repaired
     match judge_tile(kind, p, l, tile.len()) {
         Judgement::Refused(refusal) => Repaired::Refused(refusal),
         Judgement::Taken => {
-            let finding = hurt::find(kind, p, l, tile);
-            mend(p, finding.hurt, &finding.change, tile);
-            say(p, finding.hurt, &finding.change)
+            let mut change = [0u8; 257];
+            let hurt = hurt::find(kind, p, l, tile, &mut change);
+            mend(p, hurt, &change, tile);
+            say(p, hurt, &change)
         }
     }
 }
@@ -45,8 +46,9 @@ pub fn inspect(kind: Kind, p: usize, l: usize, scan: &[u8]) -> Repaired
     match judge_tile(kind, p, l, scan.len()) {
         Judgement::Refused(refusal) => Repaired::Refused(refusal),
         Judgement::Taken => {
-            let finding = hurt::find(kind, p, l, scan);
-            say(p, finding.hurt, &finding.change)
+            let mut change = [0u8; 257];
+            let hurt = hurt::find(kind, p, l, scan, &mut change);
+            say(p, hurt, &change)
         }
     }
 }
@@ -58,9 +60,10 @@ pub fn recover(kind: Kind, p: usize, l: usize, scan: &[u8], text: &mut [u8]) -> 
     match judge_text(kind, p, l, scan.len(), text.len()) {
         Judgement::Refused(refusal) => Repaired::Refused(refusal),
         Judgement::Taken => {
-            let finding = hurt::find(kind, p, l, scan);
-            take_mended(p, finding.hurt, &finding.change, scan, text);
-            say(p, finding.hurt, &finding.change)
+            let mut change = [0u8; 257];
+            let hurt = hurt::find(kind, p, l, scan, &mut change);
+            take_mended(p, hurt, &change, scan, text);
+            say(p, hurt, &change)
         }
     }
 }

@@ -21,7 +21,7 @@ use Rattle.promise.specs.Name.{lineSaid, one-or-more}
 use Rattle.promise.specs.Once.{repair-told-once, inspect-told-once, recover-told-once}
 use Rattle.promise.specs.Promise.{read-after-write, write-refused, recover-refused}
 use Rattle.promise.specs.Judged.{unallowed-judged}
-use Rattle.promise.specs.Worked.{Exactly, claimed, other-claimed, taken-5-2, zeros, text-1, tile-1, text-2, tile-2, tile-4, tile-5, tile-8, tile-9, filled-9, tile-10, copied-1, hurt-2}
+use Rattle.promise.specs.Worked.{Exactly, claimed, other-claimed, taken-5-2, zeros, text-1, tile-1, text-2, tile-2, tile-4, tile-5, tile-6, tile-8, tile-9, filled-9, tile-10, copied-1, hurt-2}
 use Rattle.promise.specs.WorkedOld as old
 use Rattle.promise.specs.WorkedJudged.{Judges, judgement}
 use Rattle.promise.specs.WorkedRecovered.{nines, recovery-claimed}
@@ -68,6 +68,10 @@ repair-even-sums k said new d r = d (other-claimed 4 k .1 said new r .0)
 -- a repair that changes tile 2's column 0 by its shifted sums, and leaves the common byte 1 in them, whatever it says
 pub common-byte-left : (k : Kind) (said : Said) → RepairTold k 5 2 hurt-2 said (1 ∷ 1 ∷ 1 ∷ 1 ∷ 0 ∷ 0 ∷ 0 ∷ 1 ∷ 1 ∷ 1 ∷ 1 ∷ 0 ∷ 0 ∷ 1 ∷ 1 ∷ 1 ∷ []) → ⊥
 common-byte-left k said = wrong-bytes (RepairTold k 5 2 hurt-2) (other-claimed 5 k) said _ (λ e. cc)
+
+-- a repair that takes the first line along which the two sums agree that the search begins with: of tile 6, whose row 0 is hurt, column 1
+pub two-sums-alone : (k : Kind) (new : List ℕ) → RepairTold k 5 2 tile-6 (column 1) new → ⊥
+two-sums-alone k new = wrong-answer (RepairTold k 5 2 tile-6) (claimed 6 k) (column 1) new (λ e. cc)
 
 -- ---- fill
 

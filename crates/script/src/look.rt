@@ -3,7 +3,7 @@ use crate::answer;
 use code::Kind;
 use size::House;
 use size::Judgement;
-use walk::sums::line_sums;
+use walk::sums::both_sums;
 ghost use lib.ListN.{length};
 ghost use Rattle.walk.specs.Sums.{Shape};
 
@@ -47,7 +47,9 @@ fn sums(p: usize, s: usize, tile: &[u8]) {
 fn sums_along(p: usize, s: usize, tile: &[u8])
     requires { ⌜ Shape p s (length (now tile)) ⌝ }
 {
-    let sums = line_sums(p, s, tile);
+    let mut ones = [0u8; 257];
+    let mut sums = [0u8; 257];
+    both_sums(p, s, tile, &mut ones, &mut sums);
     answer::words(b" sums");
     answer::bytes(&sums[..p]);
 }

@@ -1,3 +1,3 @@
 -- What the search for a hurt line promises, and the laws behind its loops.
-pub mod Column
+pub mod Line
 pub mod Hurt

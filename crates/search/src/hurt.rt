@@ -1,19 +1,22 @@
 // Which line of a tile is hurt, and by what.
-use crate::column;
-use crate::column::zeros;
+use crate::line::explaining;
 use code::Kind;
 use code::Line;
-use walk::sums::all_one;
-use walk::sums::line_sums;
-use walk::turn;
+use walk::along::shifted;
+use walk::sums::first_other;
+use walk::sums::turned_sums;
+use walk::turn::inverse;
 ghost use mathlib.Core.Path.{_≡_};
-ghost use Prim.Native.Nat.{_≤_, _<_};
+ghost use mathlib.Core.Logic.{_≢_};
+ghost use Prim.Native.Nat.{_+_, _≤_, _<_};
 ghost use lib.ListN.{length};
 ghost use Rattle.code.specs.Slope.{Slope};
 ghost use Rattle.code.specs.Kind.{Takes};
 ghost use Rattle.code.specs.Tile.{cell, sum, tileLength};
+ghost use Rattle.code.specs.Turn as law;
 ghost use Rattle.code.specs.Held.{held};
-ghost use Rattle.search.specs.Hurt.{Found, NextChanged, AlsoRow};
+ghost use Rattle.walk.specs.Sums.{Sums};
+ghost use Rattle.search.specs.Hurt.{Found, Explained, NextChanged, AlsoRow};
 
 // What is hurt: nothing; bytes of one line; more than one line can explain; or bytes of a column or of a row, and it cannot be told which.
 // In the last two cases nothing is mended.
@@ -24,80 +27,76 @@ pub enum Hurt {
     Doubtful,
 }
 
-// What is hurt, and the change in that line that mends it.
-pub struct Finding {
-    pub hurt: Hurt,
-    pub change: [u8; 257],
-}
-
-// Looks for the hurt line of a tile.
-pub fn find(kind: Kind, p: usize, l: usize, tile: &[u8]) -> Finding
+// Looks for the hurt line of a tile, and leaves in `change` the change that mends it. One array holds the sums, first of slope 1, then of the
+// turned tile's slope.
+pub fn find(kind: Kind, p: usize, l: usize, tile: &[u8], change: &mut [u8; 257]) -> Hurt
     requires { ⌜ Slope p l ⌝ }
     requires { ⌜ Takes kind p l ⌝ }
-    requires { ⌜ (p ≤ 257) × (length (now tile) ≡ tileLength p) ⌝ }
-    ensures { λ r. ⌜ Found p l (sum p 1 (cell p (now (tile .entry)))) (sum p l (cell p (now (tile .entry)))) (held (r .change)) (r .hurt) ⌝ }
+    requires { ⌜ (p ≤ 257) × (length (now tile) ≡ tileLength p) × (length (now change) ≡ 257) ⌝ }
+    ensures { λ r. ⌜ Found p l (sum p 1 (cell p (now (tile .entry)))) (sum p l (cell p (now (tile .entry)))) (held (now (change .exit))) r ⌝ }
 {
-    let a = line_sums(p, 1, tile);
-    let b = line_sums(p, l, tile);
-    explain(kind, p, l, &a, &b)
-}
-
-// The line that explains the sums a and b. If a column does, no other column does by another tile, but a row may.
-fn explain(kind: Kind, p: usize, l: usize, a: &[u8; 257], b: &[u8; 257]) -> Finding
-    requires { ⌜ Slope p l ⌝ }
-    requires { ⌜ Takes kind p l ⌝ }
-    requires { ⌜ p ≤ 257 ⌝ }
-    ensures { λ r. ⌜ Found p l (held (now (a .entry))) (held (now (b .entry))) (held (r .change)) (r .hurt) ⌝ }
-{
-    if all_one(p, a, b) {
-        return Finding {
-            hurt: Hurt::Nothing,
-            change: zeros(),
-        };
+    let mut sums = [0u8; 257];
+    turned_sums(p, 1, tile, &mut sums);
+    let common = sums[0];
+    let other = first_other(p, common, &sums);
+    let m = inverse(p, l);
+    turned_sums(p, m, tile, &mut sums);
+    if other < p {
+        return explain(kind, p, m, other - 1, tile, &sums, change);
     }
-    // rows are columns of the turned tile
-    let m = turn::inverse(p, l);
-    let sums = turn::turned(p, l, b);
-    let turned = &sums;
-    let c = column::explaining(p, l, 0, p - 1, a, b);
+    // no line explains a tile in which the sums of slope 1 are one byte and those of the second slope are not
+    if first_other(p, common, &sums) < p {
+        return Hurt::More;
+    }
+    Hurt::Nothing
+}
+
+// The line that explains a tile whose sums of slope 1 differ at `begin` and the place after it; the array has those of the turned tile's
+// slope m. Line n of slope 1 meets column c at the place (1 - m) c + m n of the array, and row r at (m - 1) r + n. If a column explains the
+// tile, no other column does by another tile, but a row may.
+fn explain(
+    kind: Kind,
+    p: usize,
+    m: usize,
+    begin: usize,
+    tile: &[u8],
+    sums: &[u8; 257],
+    change: &mut [u8; 257],
+) -> Hurt
+    requires { ⌜ (3 ≤ p) × (p ≤ 257) × (2 ≤ m) × (m < p) × (begin + 1 < p) × (length (now tile) ≡ tileLength p) × (length (now change) ≡ 257) ⌝ }
+    requires { ⌜ Sums p m (law.turned (cell p (now tile))) (now sums) ⌝ }
+    requires { ⌜ sum p 1 (cell p (now tile)) begin ≢ sum p 1 (cell p (now tile)) (begin + 1) ⌝ }
+    ensures { λ r. ⌜ Explained kind p m (cell p (now (tile .entry))) (held (now (change .exit))) r ⌝ }
+{
+    let c = explaining(p, p + 1 - m, m, begin, tile, sums);
     if c < p - 1 {
-        let change = column::shifted(p, Line::Column(c), a);
-        if also_a_row(kind, p, m, &change, a, turned) {
-            return Finding {
-                hurt: Hurt::Doubtful,
-                change: zeros(),
-            };
+        shifted(p, c, m, sums, change);
+        if also_a_row(kind, p, m, begin, tile, sums, change) {
+            return Hurt::Doubtful;
         }
-        return Finding {
-            hurt: Hurt::One(Line::Column(c)),
-            change,
-        };
+        return Hurt::One(Line::Column(c));
     }
-    let r = column::explaining(p, m, 0, p - 1, a, turned);
+    let r = explaining(p, m - 1, 1, begin, tile, sums);
     if r < p - 1 {
-        return Finding {
-            hurt: Hurt::One(Line::Row(r)),
-            change: column::shifted(p, Line::Row(r), a),
-        };
+        shifted(p, m * r % p, 1, sums, change);
+        return Hurt::One(Line::Row(r));
     }
-    Finding {
-        hurt: Hurt::More,
-        change: zeros(),
-    }
+    Hurt::More
 }
 
-// Does a row explain the sums too, by another tile than the column whose change this is? At a slope that reaches all, as a new tile's does,
-// none does; nor where the change has one byte, which is one of a row as well. The sums b and the slope m are the turned tile's.
+// Does a row explain the tile too, by another tile than the column whose change this is? At a slope that reaches all, as a new tile's does,
+// none does; nor where the change has one byte, which is one of a row as well.
 fn also_a_row(
     kind: Kind,
     p: usize,
     m: usize,
+    begin: usize,
+    tile: &[u8],
+    sums: &[u8; 257],
     change: &[u8; 257],
-    a: &[u8; 257],
-    b: &[u8; 257],
 ) -> bool
-    requires { ⌜ (2 ≤ p) × (m < p) × (p ≤ 257) ⌝ }
-    ensures { λ r. ⌜ AlsoRow kind p m (held (now (a .entry))) (held (now (b .entry))) (held (now (change .entry))) r ⌝ }
+    requires { ⌜ (3 ≤ p) × (p ≤ 257) × (2 ≤ m) × (m < p) × (begin < p) × (length (now tile) ≡ tileLength p) ⌝ }
+    ensures { λ r. ⌜ AlsoRow kind p m (sum p 1 (cell p (now (tile .entry)))) (held (now (sums .entry))) (held (now (change .entry))) r ⌝ }
 {
     let Kind::Old = kind else {
         return false;
@@ -106,7 +105,7 @@ fn also_a_row(
     if p - 1 <= next_changed(change, k + 1, p - 1) {
         return false;
     }
-    if p - 1 <= column::explaining(p, m, 0, p - 1, a, b) {
+    if p - 1 <= explaining(p, m - 1, 1, begin, tile, sums) {
         return false;
     }
     true

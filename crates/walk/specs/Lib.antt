@@ -2,6 +2,8 @@
 pub mod Bound
 pub mod Sums
 pub mod Fill
+pub mod Along
 pub mod Inverse
 pub mod Walk
+pub mod Line
 pub mod Good

@@ -15,8 +15,9 @@ use Rattle.code.specs.Tile.{Cells, cell, line, sum}
 use Rattle.code.specs.Place.{cell-in, place-is, cell-padded}
 use Rattle.code.specs.Turn.{turned, turn-second}
 use Rattle.code.specs.Held.{held, hit, zeros-held}
-use Rattle.walk.specs.Sums.{Sums, Stepped}
+use Rattle.walk.specs.Sums.{Summed, Sums, Stepped}
 use Rattle.walk.specs.Fill.{begins, carried}
+use Rattle.walk.specs.Along.{Stepping}
 
 -- ---- a run
 
@@ -107,7 +108,7 @@ rows-more {p} {m} {tile} {i} {first} {next} d s r = record {
 }
 
 -- the added row and column of zeros add nothing
-last : (p : ℕ) (f : ℕ → ℕ) → 0 < p → f (p - 1) ≡ 0 → xorBelow p f ≡ xorBelow (p - 1) f
+pub last : (p : ℕ) (f : ℕ → ℕ) → 0 < p → f (p - 1) ≡ 0 → xorBelow p f ≡ xorBelow (p - 1) f
 last p f h e = count p (p - 1 + 1) f (omega arith) ∙ more (p - 1) f ∙ rw e (zero-r _)
 
 -- a row of the tile is a column of the turned tile
@@ -128,7 +129,7 @@ rows-all {p} {m} {tile} r t h = let d = cell-padded p tile in
     ∙ last p _ (omega arith) (zeros (p - 1) _ (λ k l. rw (d .row k (omega arith), keep-zero))))
 
 -- line t of slope s is the turned tile's line m t of the inverse slope m
-pub turned-back : (p s m : ℕ) (T : Cells) (sums sums′ : List ℕ) → s * m % p ≡ 1 → Sums p m (turned T) sums
-    → ((t : ℕ) → t < p → held sums′ t ≡ held sums (m * t % p)) → Sums p s T sums′
-turned-back p s m T sums sums′ inverse h e t l =
-    e t l ∙ h (m * t % p) (mod-lt (m * t) (omega arith)) ∙ sym (turn-second p m s (same p (omega arith) ∙ inverse) t (turned T) l)
+pub turned-back : (p s m : ℕ) (T : Cells) {A A′ : ℕ → ℕ} → s * m % p ≡ 1 → Summed p m (turned T) A → Stepping p 0 m A A′ → Summed p s T A′
+turned-back p s m T {A} inverse h e t l =
+    e t l ∙ ap A (same p (omega arith)) ∙ h (m * t % p) (mod-lt (m * t) (omega arith))
+    ∙ sym (turn-second p m s (same p (omega arith) ∙ inverse) t (turned T) l)

@@ -6,8 +6,8 @@ use promise::Outcome;
 use promise::judge_text;
 use size::Judgement;
 use size::Refusal;
+use walk::sums::both_sums;
 use walk::sums::is_good;
-use walk::sums::line_sums;
 ghost use Rattle.promise.specs.Answer.{outcomeSaid};
 ghost use Rattle.promise.specs.Calls.{WriteTold, ReadTold};
 
@@ -19,8 +19,9 @@ pub fn write(kind: Kind, p: usize, l: usize, text: &[u8], tile: &mut [u8]) -> Ou
         Judgement::Refused(refusal) => Outcome::Refused(refusal),
         Judgement::Taken => {
             text::lay(p, text, tile);
-            let a = line_sums(p, 1, tile);
-            let b = line_sums(p, l, tile);
+            let mut a = [0u8; 257];
+            let mut b = [0u8; 257];
+            both_sums(p, l, tile, &mut a, &mut b);
             checks::settle(p, l, &a, &b, tile);
             Outcome::Done
         }

@@ -1,5 +1,5 @@
 -- `filler::fill` meets its contract. Assumes nothing.
-use mathlib.Core.Path.{_∙_}
+use mathlib.Core.Path.{refl, _∙_}
 use native.Mathlib.Omega.{arith}
 use borrow.Author.Needs.{needs}
 use Rattle.code.specs.Says.{says-true, says-false}
@@ -24,11 +24,12 @@ has-both-requires c κs = search needs
 
 solve-requires : tie.Need-solve-requires
 solve-requires c κs =
-    let told = c .before .before .before in
+    let has = c .before .before .before in
+    let told = has .before .before in
     let a = rw (told .enum-told .given .1) at (told .before .before .judge-tile .ensures) in
     let w = admitted-well a in
-    let h = says-true (c .before .before .has-both .ensures) (c .before .if1 .taken) in
-    (slope-of a, (w .1, (w .0 .high, w .2, omega arith, omega arith)))
+    let h = says-true (has .before .has-both .ensures) (has .if1 .taken) in
+    (slope-of a, (w .1, ((w .0 .high, w .2, omega arith, omega arith), (refl, refl))))
 
 enum-told-2 : tie.Need-enum-told-2
 enum-told-2 c = search needs
@@ -41,21 +42,23 @@ enum-told-4 c = search needs
 
 add-line-requires : tie.Need-add-line-requires
 add-line-requires c κs =
-    let solved = c .before .before .before .before .before .before in
-    let asked = solved .before .before .before in
+    let solved = c .before .before .before .before in
+    let has = solved .before .before .before .before in
+    let asked = has .before in
     let judged = asked .before .before .before in
     let w = admitted-well (rw (asked .before .enum-told .given .1) at (judged .judge-tile .ensures)) in
-    let h = says-true (asked .has-both .ensures) (solved .before .before .if1 .taken) in
+    let h = says-true (asked .has-both .ensures) (has .if1 .taken) in
     (omega (arith, w .0 .low), w .0 .high, w .2, omega arith)
 
 add-line-requires-2 : tie.Need-add-line-requires-2
 add-line-requires-2 c κs =
     let changed = c .before .before .before .before in
-    let solved = changed .before .before .before .before .before .before .before in
-    let asked = solved .before .before .before in
+    let solved = changed .before .before .before .before .before in
+    let has = solved .before .before .before .before in
+    let asked = has .before in
     let judged = asked .before .before .before in
     let w = admitted-well (rw (asked .before .enum-told .given .1) at (judged .judge-tile .ensures)) in
-    let h = says-true (asked .has-both .ensures) (solved .before .before .if1 .taken) in
+    let h = says-true (asked .has-both .ensures) (has .if1 .taken) in
     (omega (arith, w .0 .low), w .0 .high, changed .add-line .ensures .1 ∙ w .2, omega arith)
 
 returns : tie.Need-returns
@@ -66,42 +69,49 @@ same-length c = search needs
 
 returns-2 : tie.Need-returns-2
 returns-2 c =
-    let solved = c .before .before .before .before in
-    let asked = solved .before .before .before in
+    let solved = c .before .before in
+    let has = solved .before .before .before .before in
+    let asked = has .before in
     let judged = asked .before .before .before in
     let start = judged .before .before in
-    ends-unfilled (start .args .kind) (start .args .p) (start .args .l) (start .args .first) (start .args .second) (held (solved .solve .result .first)) (held (solved .solve .result .second)) (start .args .tile .now)
-    (rw (asked .before .enum-told .given .1) at (judged .judge-tile .ensures)) (says-true (asked .has-both .ensures) (solved .before .before .if1 .taken)) (rw (c .enum-told2 .given .1) at (solved .solve .ensures))
+    ends-unfilled (start .args .kind) (start .args .p) (start .args .l) (start .args .first) (start .args .second)
+    (held (solved .solve .last .1 .1 .1 .1 .1 .1 .0)) (held (solved .solve .last .1 .1 .1 .1 .1 .1 .1 .0)) (start .args .tile .now)
+    (rw (asked .before .enum-told .given .1) at (judged .judge-tile .ensures)) (says-true (asked .has-both .ensures) (has .if1 .taken))
+    (rw (c .enum-told2 .given .1) at (solved .solve .ensures))
 
 same-length-2 : tie.Need-same-length-2
 same-length-2 c = search needs
 
 returns-3 : tie.Need-returns-3
 returns-3 c =
-    let solved = c .before .before .before .before in
-    let asked = solved .before .before .before in
+    let solved = c .before .before in
+    let has = solved .before .before .before .before in
+    let asked = has .before in
     let judged = asked .before .before .before in
     let start = judged .before .before in
-    ends-doubtful (start .args .kind) (start .args .p) (start .args .l) (start .args .first) (start .args .second) (held (solved .solve .result .first)) (held (solved .solve .result .second)) (start .args .tile .now)
-    (rw (asked .before .enum-told .given .1) at (judged .judge-tile .ensures)) (says-true (asked .has-both .ensures) (solved .before .before .if1 .taken)) (rw (c .enum-told3 .given .1) at (solved .solve .ensures))
+    ends-doubtful (start .args .kind) (start .args .p) (start .args .l) (start .args .first) (start .args .second)
+    (held (solved .solve .last .1 .1 .1 .1 .1 .1 .0)) (held (solved .solve .last .1 .1 .1 .1 .1 .1 .1 .0)) (start .args .tile .now)
+    (rw (asked .before .enum-told .given .1) at (judged .judge-tile .ensures)) (says-true (asked .has-both .ensures) (has .if1 .taken))
+    (rw (c .enum-told3 .given .1) at (solved .solve .ensures))
 
 same-length-3 : tie.Need-same-length-3
 same-length-3 c = search needs
 
 returns-4 : tie.Need-returns-4
 returns-4 c =
-    let changed = c .before .before .before .before .before .before .before in
-    let chosen = changed .before .before .before in
-    let solved = chosen .before .before .before .before in
-    let asked = solved .before .before .before in
+    let second = c .before .before in
+    let first = second .before .before .before .before .before in
+    let chosen = first .before .before .before in
+    let solved = chosen .before .before in
+    let has = solved .before .before .before .before in
+    let asked = has .before in
     let judged = asked .before .before .before in
     let start = judged .before .before in
-    let filling = solved .solve in
-    let one = changed .add-line in
-    let two = c .before .before .add-line2 in
-    ends-filled (start .args .kind) (start .args .p) (start .args .l) (start .args .first) (start .args .second) (held (filling .result .first)) (held (filling .result .second)) (start .args .tile .now)
-    (rw (asked .before .enum-told .given .1) at (judged .judge-tile .ensures)) (says-true (asked .has-both .ensures) (solved .before .before .if1 .taken)) _ _ (rw (chosen .enum-told4 .given .1) at (filling .ensures))
-    (one .ensures .1) (two .ensures .1) (one .ensures .0) (two .ensures .0)
+    ends-filled (start .args .kind) (start .args .p) (start .args .l) (start .args .first) (start .args .second)
+    (held (solved .solve .last .1 .1 .1 .1 .1 .1 .0)) (held (solved .solve .last .1 .1 .1 .1 .1 .1 .1 .0)) (start .args .tile .now)
+    (rw (asked .before .enum-told .given .1) at (judged .judge-tile .ensures)) (says-true (asked .has-both .ensures) (has .if1 .taken)) _ _
+    (rw (chosen .enum-told4 .given .1) at (solved .solve .ensures))
+    (first .add-line .ensures .1) (second .add-line2 .ensures .1) (first .add-line .ensures .0) (second .add-line2 .ensures .0)
 
 returns-5 : tie.Need-returns-5
 returns-5 c = no-line (rw (c .before .before .enum-told .given .1) at (c .before .before .before .before .judge-tile .ensures)) (says-false (c .before .has-both .ensures) (c .if1 .left))

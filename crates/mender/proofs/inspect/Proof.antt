@@ -1,4 +1,5 @@
 -- `mender::inspect` meets its contract. Assumes nothing.
+use mathlib.Core.Path.{refl}
 use native.Mathlib.Omega.{arith}
 use borrow.Author.Needs.{needs}
 use Rattle.promise.specs.Calls.{refuses}
@@ -18,10 +19,10 @@ enum-told c = search needs
 
 find-requires : tie.Need-find-requires
 find-requires c κs =
-    let told = c in
+    let told = c .before in
     let a = rw (told .enum-told .given .1) at (told .before .before .judge-tile .ensures) in
     let w = admitted-well a in
-    (slope-of a, (w .1, (w .0 .high, w .2)))
+    (slope-of a, (w .1, (w .0 .high, w .2, refl)))
 
 say-requires : tie.Need-say-requires
 say-requires c κs =
@@ -37,7 +38,7 @@ returns-2 : tie.Need-returns-2
 returns-2 c =
     let told = c .before .before .before .before in
     let a = rw (told .enum-told .given .1) at (told .before .before .judge-tile .ensures) in
-    record { tile = _; told = repair-ends _ _ _ _ _ a (c .before .before .before .find .ensures) (c .say .ensures) }
+    record { tile = _; told = repair-ends _ _ _ _ _ a (c .before .before .find .ensures) (c .say .ensures) }
 
 pub inspect-spec : {M : Type 1} → statement M
 inspect-spec =

@@ -1,4 +1,5 @@
 -- `mender::recover` meets its contract. Assumes nothing.
+use mathlib.Core.Path.{refl}
 use native.Mathlib.Omega.{arith}
 use borrow.Author.Needs.{needs}
 use Rattle.promise.specs.Calls.{RecoverTold}
@@ -18,10 +19,10 @@ enum-told c = search needs
 
 find-requires : tie.Need-find-requires
 find-requires c κs =
-    let told = c in
+    let told = c .before in
     let a = rw (told .enum-told .given .1) at (told .before .before .judge-text .ensures) in
     let w = admitted-well a in
-    (slope-of a, (w .1, (w .0 .high, w .2 .0)))
+    (slope-of a, (w .1, (w .0 .high, w .2 .0, refl)))
 
 take-mended-requires : tie.Need-take-mended-requires
 take-mended-requires c κs =
@@ -29,12 +30,12 @@ take-mended-requires c κs =
     let a = rw (told .enum-told .given .1) at (told .before .before .judge-text .ensures) in
     let w = admitted-well a in (
       record { low = omega (arith, w .0 .low); high = w .0 .high; tile = w .2 .0; text = w .2 .1 },
-      line-in (c .before .before .before .find .ensures),
+      line-in (c .before .before .find .ensures),
     )
 
 say-requires : tie.Need-say-requires
 say-requires c κs =
-    let told = c .before .before .before .before .before .before .before .before .before in
+    let told = c .before .before .before .before .before .before .before .before in
     let a = rw (told .enum-told .given .1) at (told .before .before .judge-text .ensures) in
     let w = admitted-well a in
     (omega (arith, w .0 .low), w .0 .high)
@@ -47,9 +48,9 @@ same-length c = search needs
 
 returns-2 : tie.Need-returns-2
 returns-2 c =
-    let told = c .before .before .before .before .before .before .before .before .before .before in
+    let told = c .before .before .before .before .before .before .before .before .before in
     let a = rw (told .enum-told .given .1) at (told .before .before .judge-text .ensures) in
-    recover-ends _ _ _ _ _ _ a (c .before .before .before .before .before .before .before .before .before .find .ensures) (c .say .ensures) (c .before .before .before .before .before .take-mended .ensures)
+    recover-ends _ _ _ _ _ _ a (c .before .before .before .before .before .before .before .find .ensures) (c .say .ensures) (c .before .before .before .before .take-mended .ensures)
 
 pub recover-spec : {M : Type 1} → statement M
 recover-spec =

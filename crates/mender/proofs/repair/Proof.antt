@@ -1,4 +1,5 @@
 -- `mender::repair` meets its contract. Assumes nothing.
+use mathlib.Core.Path.{refl}
 use native.Mathlib.Omega.{arith}
 use borrow.Author.Needs.{needs}
 use Rattle.promise.specs.Calls.{refuses}
@@ -18,21 +19,21 @@ enum-told c = search needs
 
 find-requires : tie.Need-find-requires
 find-requires c κs =
-    let told = c .before in
+    let told = c .before .before in
     let a = rw (told .enum-told .given .1) at (told .before .before .judge-tile .ensures) in
     let w = admitted-well a in
-    (slope-of a, (w .1, (w .0 .high, w .2)))
+    (slope-of a, (w .1, (w .0 .high, w .2, refl)))
 
 mend-requires : tie.Need-mend-requires
 mend-requires c κs =
     let told = c .before .before .before .before .before in
     let a = rw (told .enum-told .given .1) at (told .before .before .judge-tile .ensures) in
     let w = admitted-well a in
-    (omega (arith, w .0 .low), w .0 .high, w .2, line-in (c .before .before .before .find .ensures))
+    (omega (arith, w .0 .low), w .0 .high, w .2, line-in (c .before .before .find .ensures))
 
 say-requires : tie.Need-say-requires
 say-requires c κs =
-    let told = c .before .before .before .before .before .before .before .before .before .before in
+    let told = c .before .before .before .before .before .before .before .before .before in
     let a = rw (told .enum-told .given .1) at (told .before .before .judge-tile .ensures) in
     let w = admitted-well a in
     (omega (arith, w .0 .low), w .0 .high)
@@ -45,9 +46,9 @@ same-length c = search needs
 
 returns-2 : tie.Need-returns-2
 returns-2 c =
-    let told = c .before .before .before .before .before .before .before .before .before .before .before in
+    let told = c .before .before .before .before .before .before .before .before .before .before in
     let a = rw (told .enum-told .given .1) at (told .before .before .judge-tile .ensures) in
-    rw (c .before .before .before .before .before .mend .ensures) (repair-ends _ _ _ _ _ a (c .before .before .before .before .before .before .before .before .before .find .ensures) (c .say .ensures))
+    rw (c .before .before .before .before .mend .ensures) (repair-ends _ _ _ _ _ a (c .before .before .before .before .before .before .before .find .ensures) (c .say .ensures))
 
 pub repair-spec : {M : Type 1} → statement M
 repair-spec =

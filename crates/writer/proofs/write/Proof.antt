@@ -1,5 +1,5 @@
 -- `writer::write` meets its contract. Assumes nothing.
-use mathlib.Core.Path.{_∙_}
+use mathlib.Core.Path.{refl, _∙_}
 use native.Mathlib.Omega.{arith}
 use borrow.Author.Needs.{needs}
 use Rattle.code.specs.Held.{held}
@@ -24,34 +24,37 @@ lay-requires c κs =
     let w = admitted-well (rw (c .before .enum-told .given .1) at (c .before .before .before .judge-text .ensures)) in
     record { low = omega (arith, w .0 .low); high = w .0 .high; tile = w .2 .0; text = w .2 .1 }
 
-line-sums-requires : tie.Need-line-sums-requires
-line-sums-requires c κs =
-    let laid = c .before .before .before in
-    let judged = laid .before .before .before .before in
-    let w = admitted-well (rw (laid .before .before .enum-told .given .1) at (judged .judge-text .ensures)) in
-    record { prime = w .0 .prime; high = w .0 .high; positive = omega arith; slope = omega (arith, w .0 .low); size = laid .lay .ensures .size ∙ w .2 .0 }
-
-line-sums-requires-2 : tie.Need-line-sums-requires-2
-line-sums-requires-2 c κs =
+both-sums-requires : tie.Need-both-sums-requires
+both-sums-requires c κs =
     let laid = c .before .before .before .before .before in
     let judged = laid .before .before .before .before in
     let a = rw (laid .before .before .enum-told .given .1) at (judged .judge-text .ensures) in
     let w = admitted-well a in
-    record { prime = w .0 .prime; high = w .0 .high; positive = omega (arith, slope-of a .low); slope = omega (arith, slope-of a .high); size = laid .lay .ensures .size ∙ w .2 .0 }
+    let slope = slope-of a in (
+      record {
+        prime = w .0 .prime;
+        high = w .0 .high;
+        positive = omega (arith, slope .low);
+        slope = omega (arith, slope .high);
+        size = laid .lay .ensures .size ∙ w .2 .0;
+      },
+      (refl, refl),
+    )
 
 settle-requires : tie.Need-settle-requires
 settle-requires c κs =
-    let second = c .before .before .before in
-    let first = second .before .before in
-    let laid = first .before .before .before .before in
+    let summed = c .before .before .before in
+    let laid = summed .before .before .before .before .before .before in
     let judged = laid .before .before .before .before in
     let start = judged .before .before .before in
     let a = rw (laid .before .before .enum-told .given .1) at (judged .judge-text .ensures) in
-    let w = admitted-well a in (
+    let w = admitted-well a in
+    let sums = summed .both-sums in (
       slope-of a,
       (
         (w .0 .high, laid .lay .ensures .size ∙ w .2 .0),
-        held-totals (start .args .p) (start .args .l) _ (first .line-sums .result) (second .line-sums2 .result) (first .line-sums .ensures) (second .line-sums2 .ensures),
+        held-totals (start .args .p) (start .args .l) _ (sums .last .1 .1 .1 .0) (sums .last .1 .1 .1 .1 .0)
+            (sums .ensures .0) (sums .ensures .1 .0),
       ),
     )
 
@@ -64,13 +67,15 @@ same-length c = search needs
 returns-2 : tie.Need-returns-2
 returns-2 c =
     let settled = c .before .before in
-    let second = settled .before .before .before .before in
-    let first = second .before .before in
-    let laid = first .before .before .before .before in
+    let summed = settled .before .before .before .before in
+    let laid = summed .before .before .before .before .before .before in
     let judged = laid .before .before .before .before in
     let start = judged .before .before .before in
-    ends-written (start .args .kind) (start .args .p) (start .args .l) (held (first .line-sums .result)) (held (second .line-sums2 .result)) (start .args .text .now) (start .args .tile .now) _ _
-    (rw (laid .before .before .enum-told .given .1) at (judged .judge-text .ensures)) (laid .lay .ensures) (first .line-sums .ensures) (second .line-sums2 .ensures) (settled .settle .ensures)
+    let sums = summed .both-sums in
+    ends-written (start .args .kind) (start .args .p) (start .args .l) (held (sums .last .1 .1 .1 .0)) (held (sums .last .1 .1 .1 .1 .0))
+    (start .args .text .now) (start .args .tile .now) _ _
+    (rw (laid .before .before .enum-told .given .1) at (judged .judge-text .ensures))
+    (laid .lay .ensures) (sums .ensures .0) (sums .ensures .1 .0) (settled .settle .ensures)
 
 pub write-spec : {M : Type 1} → statement M
 write-spec =
@@ -80,8 +85,7 @@ write-spec =
     enum-known-refusal
     enum-told
     lay-requires
-    line-sums-requires
-    line-sums-requires-2
+    both-sums-requires
     settle-requires
     returns
     same-length

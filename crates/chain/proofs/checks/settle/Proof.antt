@@ -1,4 +1,5 @@
 -- `chain::checks::settle` meets its contract. Assumes nothing.
+use mathlib.Core.Path.{refl}
 use native.Mathlib.Omega.{arith}
 use borrow.Author.Needs.{needs}
 use Rattle.code.specs.Held.{held}
@@ -15,12 +16,16 @@ sub-second c = search needs
 
 solve-requires : tie.Need-solve-requires
 solve-requires c κs =
-    let start = c .before in
+    let start = c .before .before .before in
     let slope = start .pre .0 in (
       slope,
       (
         (start .pre .1 .0 .0, omega (arith, slope .high), omega (arith, slope .high)),
-        columns-close (start .args .p) (start .args .l) (held (start .args .a .now)) (held (start .args .b .now)) slope _ _ (omega (arith, slope .high)) (omega (arith, slope .high)) (omega (arith, slope .low, slope .high)) (start .pre .1 .1),
+        (
+          columns-close (start .args .p) (start .args .l) (held (start .args .a .now)) (held (start .args .b .now)) slope _ _
+              (omega (arith, slope .high)) (omega (arith, slope .high)) (omega (arith, slope .low, slope .high)) (start .pre .1 .1),
+          (refl, refl),
+        ),
       ),
     )
 
@@ -37,13 +42,13 @@ returns : tie.Need-returns
 returns c =
     let second = c .before .before in
     let first = second .before .before .before .before .before in
-    let solved = first .before .before .before .before .before in
-    let start = solved .before .before in
+    let solved = first .before .before .before in
+    let start = solved .before .before .before .before in
     let slope = start .pre .0 in
-    let changes = solved .solve in
-    both-added (start .args .p) (start .args .l) _ _ (held (start .args .a .now)) (held (start .args .b .now)) (held (changes .result .column)) (held (changes .result .line))
-    (start .args .tile .now) _ _ (omega (arith, slope .high)) (omega (arith, slope .high)) (changes .ensures) (first .add-line .ensures .0) (second .add-line2 .ensures .0)
-    (first .add-line .ensures .1) (second .add-line2 .ensures .1)
+    both-added (start .args .p) (start .args .l) _ _ (held (start .args .a .now)) (held (start .args .b .now))
+    (held (solved .solve .last .1 .1 .1 .0)) (held (solved .solve .last .1 .1 .1 .1 .0)) (start .args .tile .now) _ _
+    (omega (arith, slope .high)) (omega (arith, slope .high)) (solved .solve .ensures)
+    (first .add-line .ensures .0) (second .add-line2 .ensures .0) (first .add-line .ensures .1) (second .add-line2 .ensures .1)
 
 pub settle-spec : {M : Type 1} → statement M
 settle-spec =

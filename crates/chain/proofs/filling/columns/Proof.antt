@@ -12,16 +12,24 @@ one-column-requires c κs = search needs
 
 paired-requires : tie.Need-paired-requires
 paired-requires c κs =
-    let start = c .before in (
+    let two = c .before .before in
+    let start = two .before in (
       start .pre .0,
       (
         (omega arith, omega arith, omega arith),
-        (inl tt, columns-close (start .args .p) (start .args .l) _ _ (start .pre .0) (start .args .u) (start .args .v) (omega arith) (omega arith) (c .if1 .left) (start .pre .1 .3)),
+        (
+          inl tt,
+          (
+            columns-close (start .args .p) (start .args .l) _ _ (start .pre .0) (start .args .u) (start .args .v)
+                (omega arith) (omega arith) (two .if1 .left) (start .pre .1 .0 .3),
+            start .pre .1 .1,
+          ),
+        ),
       ),
     )
 
 returns : tie.Need-returns
-returns c = rw (sym (c .before .if1 .taken)) (c .one-column .ensures)
+returns c = rw (sym (c .before .before .before .if1 .taken)) (c .one-column .ensures)
 
 returns-2 : tie.Need-returns-2
 returns-2 c = search needs

@@ -9,38 +9,36 @@ use Rattle.chain.proofs.filling.crossed.Tie as tie
 enum-told : tie.Need-enum-told
 enum-told c = search needs
 
-unfilled-requires : tie.Need-unfilled-requires
-unfilled-requires c κs = search needs
-
 enum-told-2 : tie.Need-enum-told-2
 enum-told-2 c = search needs
-
-unfilled-requires-2 : tie.Need-unfilled-requires-2
-unfilled-requires-2 c κs = search needs
 
 enum-told-3 : tie.Need-enum-told-3
 enum-told-3 c = search needs
 
 paired-requires : tie.Need-paired-requires
 paired-requires c κs =
-    let start = c .before .before in
-    let one = one-reaches (rw (c .enum-told3 .given .1) at (start .pre .1 .0)) in (
+    let told = c .before .before in
+    let start = told .before .before in
+    let one = one-reaches (rw (told .enum-told3 .given .1) at (start .pre .1 .0)) in (
       start .pre .0,
       (
         (omega arith, omega arith, omega arith),
-        (inr (one .0), crossed-close (start .args .p) (start .args .l) _ _ (start .pre .0) (start .args .t) (start .args .s) (one .0) (omega arith) (omega arith) (start .pre .1 .1 .3) (one .1)),
+        (
+          inr (one .0),
+          (
+            crossed-close (start .args .p) (start .args .l) _ _ (start .pre .0) (start .args .t) (start .args .s)
+                (one .0) (omega arith) (omega arith) (start .pre .1 .1 .0 .3) (one .1),
+            start .pre .1 .1 .1,
+          ),
+        ),
       ),
     )
 
 returns : tie.Need-returns
-returns c =
-    let told = c .before in
-    rw (c .unfilled .ensures) (none-solved (rw (told .enum-told .given .1) at (told .before .before .pre .1 .0)))
+returns c = none-solved (rw (c .enum-told .given .1) at (c .before .before .pre .1 .0))
 
 returns-2 : tie.Need-returns-2
-returns-2 c =
-    let told = c .before in
-    rw (c .unfilled2 .ensures) (several-solved (rw (told .enum-told2 .given .1) at (told .before .before .pre .1 .0)))
+returns-2 c = several-solved (rw (c .enum-told2 .given .1) at (c .before .before .pre .1 .0))
 
 returns-3 : tie.Need-returns-3
 returns-3 c = search needs
@@ -48,13 +46,4 @@ returns-3 c = search needs
 pub crossed-spec : {M : Type 1} → statement M
 crossed-spec =
     tie.close
-    (tie.spec
-    enum-told
-    unfilled-requires
-    enum-told-2
-    unfilled-requires-2
-    enum-told-3
-    paired-requires
-    returns
-    returns-2
-    returns-3)
+    (tie.spec enum-told enum-told-2 enum-told-3 paired-requires returns returns-2 returns-3)

@@ -8,7 +8,7 @@ solve-requires : tie.Need-solve-requires
 solve-requires c κs = search needs
 
 returns : tie.Need-returns
-returns c = one (c .before .before .before .pre .1 .1 .0) (c .before .before .solve .ensures)
+returns c = one (c .before .before .before .pre .1 .1 .0) (c .solve .ensures)
 
 pub paired-spec : {M : Type 1} → statement M
 paired-spec = tie.close (tie.spec solve-requires returns)

@@ -31,7 +31,7 @@ sub-mark-row c = omega arith
 
 mul-mark-row : tie.Need-mul-mark-row Inv-loop μ-loop
 mul-mark-row c =
-    let a = c .before .before .before .before .before .before .args in
+    let a = c .before .before .before .before .before .before .before .args in
     omega (arith, row-lt (a .p - 1) (a .p - 1) (c .before .before .before .loop .i) 0 (omega arith) (omega arith))
 
 sub-mark-row-2 : tie.Need-sub-mark-row-2 Inv-loop μ-loop
@@ -39,7 +39,7 @@ sub-mark-row-2 c = omega arith
 
 mark-row-requires : tie.Need-mark-row-requires Inv-loop μ-loop
 mark-row-requires c κs =
-    let a = c .before .before .before .before .before .before .before .args in
+    let a = c .before .before .before .before .before .before .before .before .args in
     let end = row-lt (a .p - 1) (a .p - 1) (c .before .before .before .before .loop .i) (a .p - 2) (omega arith) (omega arith) in
     (omega arith, omega arith, omega arith, omega arith)
 
@@ -62,7 +62,7 @@ loop-again c =
 
 returns : tie.Need-returns Inv-loop μ-loop
 returns c =
-    let e : c .before .loop .i ≡ c .before .before .before .before .args .p - 1 = omega arith in
+    let e : c .before .loop .i ≡ c .before .before .before .before .before .args .p - 1 = omega arith in
     rw e at (c .before .loop .inv .1)
 
 pub mark-columns-spec : {M : Type 1} → statement M

@@ -5,8 +5,8 @@ use borrow.Author.Needs.{needs}
 use Rattle.script.proofs.look.sums_along.Statement.{statement}
 use Rattle.script.proofs.look.sums_along.Tie as tie
 
-line-sums-requires : tie.Need-line-sums-requires
-line-sums-requires c κs = search needs
+both-sums-requires : tie.Need-both-sums-requires
+both-sums-requires c κs = search needs
 
 slice-aggregate-words : tie.Need-slice-aggregate-words
 slice-aggregate-words c = search needs
@@ -30,7 +30,7 @@ pub sums-along-spec : {M : Type 1} → statement M
 sums-along-spec =
     tie.close
     (tie.spec
-    line-sums-requires
+    both-sums-requires
     slice-aggregate-words
     words-requires
     array-share-prefix-sums

@@ -1,7 +1,7 @@
 -- `search::hurt::also_a_row` meets its contract. Assumes nothing.
 use native.Mathlib.Omega.{arith}
 use borrow.Author.Needs.{needs}
-use Rattle.search.specs.Hurt.{is-new, has-one, no-row, a-row, twice-changed, once-changed}
+use Rattle.search.specs.Hurt.{is-new, has-one, no-row-fits, a-row, twice-changed, once-changed}
 use Rattle.search.proofs.hurt.also_a_row.Statement.{statement}
 use Rattle.search.proofs.hurt.also_a_row.Tie as tie
 
@@ -45,7 +45,7 @@ explaining-requires : tie.Need-explaining-requires
 explaining-requires c κs = search needs
 
 returns-3 : tie.Need-returns-3
-returns-3 c = no-row (λ k h. c .before .explaining .ensures .none (omega arith) k (omega arith) h)
+returns-3 c = no-row-fits (c .before .explaining .ensures .none (c .if2 .taken))
 
 returns-4 : tie.Need-returns-4
 returns-4 c =

@@ -4,7 +4,7 @@ use Prim.Native.Nat.{ℕ, _≤_, _<_, _-_}
 use native.Mathlib.Omega.{arith}
 use borrow.Author.Needs.{needs}
 use Rattle.code.specs.Held.{held}
-use Rattle.search.specs.Column.{one-further}
+use Rattle.search.specs.Line.{one-further}
 use Rattle.search.proofs.hurt.next_changed.Statement.{statement}
 use Rattle.search.proofs.hurt.next_changed.Tie as tie
 

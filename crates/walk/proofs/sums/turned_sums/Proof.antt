@@ -25,12 +25,12 @@ sub-add-row c = omega arith
 
 mul-add-row : tie.Need-mul-add-row Inv-loop μ-loop
 mul-add-row c =
-    let a = c .before .before .before .args in
+    let a = c .before .before .before .before .args in
     omega (arith, row-lt (a .p - 1) (a .p - 1) (c .before .loop .i) 0 (omega arith) (omega arith))
 
 add-row-requires : tie.Need-add-row-requires Inv-loop μ-loop
 add-row-requires c κs =
-    let a = c .before .before .before .before .args in
+    let a = c .before .before .before .before .before .args in
     let end = row-lt (a .p - 1) (a .p - 1) (c .before .before .loop .i) (a .p - 2) (omega arith) (omega arith) in
     (omega arith, omega arith, omega arith, omega arith)
 
@@ -48,8 +48,8 @@ loop-again c = (omega arith, rows-more (c .before .add-row .ensures) (c .step .e
 
 returns : tie.Need-returns Inv-loop μ-loop
 returns c =
-    let e : c .before .loop .i ≡ c .before .before .before .args .p - 1 = omega arith in
-    rows-all (rw e at (c .before .loop .inv .1))
+    let e : c .before .loop .i ≡ c .before .before .before .before .args .p - 1 = omega arith in
+    (rows-all (rw e at (c .before .loop .inv .1)), c .before .loop .inv .1 .size)
 
 pub turned-sums-spec : {M : Type 1} → statement M
 turned-sums-spec = tie.close (tie.spec Inv-loop μ-loop loop-holds sub-loop sub-add-row mul-add-row add-row-requires step-requires add-i loop-less loop-again returns)

@@ -1,10 +1,10 @@
--- `search::column::shifted` meets its contract. Assumes nothing.
+-- `walk::along::shifted` meets its contract. Assumes nothing.
 use mathlib.Core.Path.{ap₂, _∙_}
 use native.Mathlib.Omega.{arith}
 use borrow.Author.Needs.{needs}
 use Rattle.xor.specs.Xor.{_⊕_}
-use Rattle.search.proofs.column.shifted.Statement.{statement}
-use Rattle.search.proofs.column.shifted.Tie as tie
+use Rattle.walk.proofs.along.shifted.Statement.{statement}
+use Rattle.walk.proofs.along.shifted.Tie as tie
 
 along-requires : tie.Need-along-requires
 along-requires c κs = search needs
@@ -14,7 +14,7 @@ take-off-common-requires c κs = search needs
 
 returns : tie.Need-returns
 returns c =
-    let sums = c .before .before .along .ensures in
+    let sums = c .before .before .along .ensures .0 in
     λ k h. c .take-off-common .ensures k h ∙ ap₂ _⊕_ (sums k h) (sums _ (omega arith))
 
 pub shifted-spec : {M : Type 1} → statement M

@@ -1,4 +1,4 @@
--- `search::column::take_off_common` meets its contract. The loop's invariant: the common byte is taken off at the places passed, and the
+-- `walk::along::take_off_common` meets its contract. The loop's invariant: the common byte is taken off at the places passed, and the
 -- others are as they were. Assumes nothing.
 use mathlib.Core.Path.{_≡_, refl, ap, _∙_}
 use Prim.Native.Nat.{ℕ, _≤_, _<_, _-_}
@@ -7,9 +7,9 @@ use lib.ListN.{length, length-set}
 use lib.Seq.{getD-set-other}
 use Rattle.xor.specs.Xor.{_⊕_, ⊕-is}
 use Rattle.code.specs.Held.{held}
 use Rattle.walk.specs.Fill.{one-more}
-use Rattle.search.proofs.column.take_off_common.Statement.{statement}
-use Rattle.search.proofs.column.take_off_common.Tie as tie
+use Rattle.walk.proofs.along.take_off_common.Statement.{statement}
+use Rattle.walk.proofs.along.take_off_common.Tie as tie
 
 abbrev Inv-loop : tie.InvT-loop
 Inv-loop p sums₀ common k₀ sums k =
