@@ -15,11 +15,13 @@
 
 enum { RIGHT = 0, WRONG = 1, NOT_UNDERSTOOD = 2 };
 
+/* A contender is here once for each of the files with its jobs. */
 static const struct {
     const char *name;
     bool (*prepare)(const char *name, size_t p, struct job *job);
 } contenders[] = {
     { "cf-", prepare_counterfrost },
+    { "cf-", prepare_hurt },
     { "peer-", prepare_peer },
     { "plain-", prepare_plain },
 #ifdef WITH_ISAL
@@ -37,8 +39,8 @@ static bool prepare(const char *name, size_t p, struct job *job)
     for (size_t i = 0; i < sizeof contenders / sizeof contenders[0]; i++) {
         size_t length = strlen(contenders[i].name);
 
-        if (strncmp(name, contenders[i].name, length) == 0)
-            return contenders[i].prepare(name + length, p, job);
+        if (strncmp(name, contenders[i].name, length) == 0 && contenders[i].prepare(name + length, p, job))
+            return true;
     }
     return false;
 }

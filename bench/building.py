@@ -23,7 +23,7 @@ PEERS = {
 # Jerasure's header names another one of its own without the folder.
 INCLUDES = ["-I" + str(TOP / "include"), "-I" + str(TOP / "tests" / "face"), "-I/usr/include/jerasure"]
 
-COMMON = ["bench.c", "material.c", "measure.c", "plain_jobs.c", "stripe.c", "tile_jobs.c"]
+COMMON = ["bench.c", "hurt_jobs.c", "material.c", "measure.c", "plain_jobs.c", "stripe.c", "tile_jobs.c"]
 
 
 def need(command):

@@ -1,5 +1,6 @@
 /* A job is one thing that is measured: a call, what it works on, and what a right call answers and leaves behind. Each
- * contender has a file that prepares its jobs; bench.c finds the job by its name and measure.c runs it. */
+ * contender has a file that prepares its jobs, and the library has a second one, for its repairs at the far end of the search; bench.c
+ * finds the job by its name and measure.c runs it. */
 
 #ifndef BENCH_JOB_H
 #define BENCH_JOB_H
@@ -20,6 +21,7 @@ struct job {
 
 /* Each of these prepares the job of that name at size p, or says that it has none of that name. */
 bool prepare_counterfrost(const char *name, size_t p, struct job *job);
+bool prepare_hurt(const char *name, size_t p, struct job *job);
 bool prepare_peer(const char *name, size_t p, struct job *job);
 bool prepare_plain(const char *name, size_t p, struct job *job);
 bool prepare_isal(const char *name, size_t p, struct job *job);
