@@ -13,7 +13,7 @@ DIST = counterfrost-$(VERSION)-linux-x86_64
 # How many crates, or edits, rt proves at a time: one more than there are cores, so that none is idle while the last of a batch is proved.
 export RT_JOBS ?= $(shell n=$$(nproc); echo $$((n < 4 ? n + 1 : 5)))
 
-TARGETS = help list lib install uninstall dist test check face bench reels expected clean
+TARGETS = help list lib install uninstall dist test check face stack bench reels expected clean
 .PHONY: $(TARGETS) kit target/bin/list
 # Two that prove at once in one folder would get in each other's way.
 .NOTPARALLEL:
@@ -60,9 +60,13 @@ test: kit ## 8 minutes           the whole gate: everything proved from nothing,
 check: kit ## 4 minutes (at once) proves all crates and runs the programs; with NAME=crate that one, and what it stands on
 	@rt check $(NAME)
 
-face: lib target/bin/list ## half a minute       once the library is built: header, examples, installation, tar file, calls compared
+face: lib target/bin/list ## half a minute       once the library is built: header, examples, installation, tar file, calls compared, stack
 	@tests/face/run $(ARCHIVE)
+	@tests/stack/run $(ARCHIVE)
 	@tests/installed
+
+stack: lib ## seconds             once the library is built: how much of the stack each call takes, held to its goal
+	@tests/stack/run $(ARCHIVE)
 
 bench: lib ## 3 minutes           once the library is built: measures it, and writes the tables of docs/BENCHMARK.md (needs python3)
 	@bench/install
