@@ -27,8 +27,8 @@ pub enum Hurt {
     Doubtful,
 }
 
-// Looks for the hurt line of a tile, and leaves in `change` the change that mends it. One array holds the sums, first of slope 1, then of the
-// turned tile's slope.
+// Looks for the hurt line of a tile, and leaves in `change` the change that mends it. One array holds the sums: those of slope 1, and then
+// those of the turned tile's slope.
 pub fn find(kind: Kind, p: usize, l: usize, tile: &[u8], change: &mut [u8; 257]) -> Hurt
     requires { ⌜ Slope p l ⌝ }
     requires { ⌜ Takes kind p l ⌝ }

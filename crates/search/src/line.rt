@@ -1,5 +1,5 @@
-// The search for the line that explains a hurt tile. Of the second slope it has the sums in an array; a sum of slope 1 is taken from the tile
-// when it is compared.
+// The search for the line that explains a hurt tile. It has the sums of the second slope in an array; a sum of slope 1 is taken from the
+// tile when it is compared.
 use walk::index::step;
 use walk::sums::line_sum;
 ghost use mathlib.Core.Path.{_≡_};
@@ -9,10 +9,10 @@ ghost use Rattle.code.specs.Tile.{cell, sum, tileLength};
 ghost use Rattle.code.specs.Held.{held};
 ghost use Rattle.search.specs.Line.{Searched};
 
-// The first line along which the sums of both slopes agree, or p - 1 where there is none. The sum of slope 1 through line t and that of the
-// second slope which belongs to it along line n, at shift n + weight t modulo p, have to be the same. The lines are tried in their order, and
-// each is given up at the first sum that differs. All begin at the same place, so that the first two sums of slope 1 are taken but once:
-// where these two differ, they are enough to give up nearly every wrong line.
+// The first row or column along which the sums of both slopes agree, or p - 1 where there is none. Along line n, the sum of slope 1 of line
+// t has to be the one at the place shift n + weight t modulo p. The lines are tried in their order, and each is given up at the first sum
+// that differs. All begin at the same place, so that the first two sums of slope 1 are taken but once: where these two differ, they are
+// enough to give up nearly every wrong line.
 pub fn explaining(
     p: usize,
     shift: usize,

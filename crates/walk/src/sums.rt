@@ -75,8 +75,8 @@ fn add_bytes(tile: &[u8], start: usize, count: usize, sums: &mut [u8; 257], firs
     }
 }
 
-// The sum of one line of slope 1. From row `below` on its cells go down to the left, beginning in the last column. The row above that has none,
-// and in the rows before they go down to the left too, from row 0 on.
+// The sum of one line of slope 1. From row `below` on its cells go down to the left, beginning in the last column. The row above that has
+// none, and in the rows before they go down to the left too, from row 0 on.
 pub fn line_sum(p: usize, t: usize, tile: &[u8]) -> u8
     requires { ⌜ (3 ≤ p) × (p ≤ 257) × (t < p) × (length (now tile) ≡ tileLength p) ⌝ }
     ensures { λ r. ⌜ r ≡ sum p 1 (cell p (now (tile .entry))) t ⌝ }
