@@ -9,13 +9,6 @@ use Rattle.code.specs.Tile.{cell, sum, Good}
 use Rattle.code.specs.Turn.{turned, turn-first, good-turned}
 use Rattle.walk.specs.Sums.{Summed, FirstOther, AllOne}
 
--- only the sums of the lines 0 to p-1 count
-pub all-one-sums : (p : ℕ) (A B A′ B′ : ℕ → ℕ) → ((t : ℕ) → t < p → A t ≡ A′ t) → ((t : ℕ) → t < p → B t ≡ B′ t) → AllOne p A B → AllOne p A′ B′
-all-one-sums p A B A′ B′ ha hb g = record {
-  first = λ t h. sym (ha t h) ∙ g .first t h ∙ ha 0 (omega arith);
-  second = λ t h. sym (hb t h) ∙ g .second t h ∙ ha 0 (omega arith);
-}
-
 -- all sums are one byte exactly if the tile is good
 pub one-good : (p l : ℕ) (x : List ℕ) → AllOne p (sum p 1 (cell p x)) (sum p l (cell p x)) → Good p l x
 one-good p l x h = record { common = sum p 1 (cell p x) 0; first = h .first; second = h .second }
