@@ -21,7 +21,6 @@ ghost use Rattle.code.specs.Fillings.{Sure};
 ghost use Rattle.code.specs.declared.Line.the-variants.{Row, Column};
 ghost use Rattle.code.specs.Held.{held};
 ghost use Rattle.code.specs.Says.{Says};
-ghost use Rattle.classes.specs.Many.{CrossedMany};
 ghost use Rattle.chain.specs.Solve.{Solved, Closes};
 
 // The filling of two lines of a tile, or of one line named twice: how many there are and, where it is one, the changes in the first line
@@ -69,16 +68,10 @@ fn settle(
     match first {
         Line::Row(r) => match second {
             Line::Row(s) => rows(p, l, r, s, a, b, x, y),
-            Line::Column(t) => {
-                let many = classes::crossed_fillings(kind, p, l, t, r, a, b);
-                crossed(many, p, l, t, r, a, b, y, x)
-            }
+            Line::Column(t) => crossed(kind, p, l, t, r, a, b, y, x),
         },
         Line::Column(t) => match second {
-            Line::Row(s) => {
-                let many = classes::crossed_fillings(kind, p, l, t, s, a, b);
-                crossed(many, p, l, t, s, a, b, x, y)
-            }
+            Line::Row(s) => crossed(kind, p, l, t, s, a, b, x, y),
             Line::Column(v) => columns(p, l, t, v, a, b, x, y),
         },
     }
@@ -180,9 +173,9 @@ fn agree(p: usize, l: usize, c: usize, a: &[u8; 257], b: &[u8; 257]) -> bool
     true
 }
 
-// A column with a row, which have so many fillings.
+// A column with a row.
 fn crossed(
-    many: Fillings,
+    kind: Kind,
     p: usize,
     l: usize,
     t: usize,
@@ -193,12 +186,12 @@ fn crossed(
     y: &mut [u8; 257],
 ) -> Fillings
     requires { ⌜ Slope p l ⌝ }
-    requires { ⌜ CrossedMany p l t s (held (now a)) (held (now b)) many ⌝ }
+    requires { ⌜ Takes kind p l ⌝ }
     requires { ⌜ (p ≤ 257) × (t < p - 1) × (s < p - 1) × (xorBelow p (held (now a)) ≡ xorBelow p (held (now b))) ⌝ }
     requires { ⌜ (length (now x) ≡ 257) × (length (now y) ≡ 257) ⌝ }
     ensures { λ r. ⌜ Solved p l (Column t) (Row s) (held (now (a .entry))) (held (now (b .entry))) (held (now (x .exit))) (held (now (y .exit))) r ⌝ }
 {
-    match many {
+    match classes::crossed_fillings(kind, p, l, t, s, a, b) {
         Fillings::None => Fillings::None,
         Fillings::Several => Fillings::Several,
         Fillings::One => paired(

@@ -4,6 +4,7 @@ use mathlib.Core.Logic.{⊎-elim}
 use Prim.Native.Nat.{ℕ, _+_, _-_, _*_, _%_, _≤_, _<_}
 use native.Mathlib.Nat.{mod-lt, mod-eq-of-lt, mod-add-mod, eq-or-lt-of-le}
 use native.Mathlib.Omega.{arith}
+use borrow.Author.Count.{below-more}
 use Rattle.xor.specs.Xor.{_⊕_}
 use Rattle.residue.specs.Remainder.{same, alike, mul-mod-mod, add-alike, mul-alike, undo, before, before-lt, before-step}
 use Rattle.code.specs.OneLine.{number, through, Agree}
@@ -33,6 +34,16 @@ pub record Searched (p shift weight : ℕ) (A S : ℕ → ℕ) (n : ℕ) : Type 
 -- they agree at the k slope-1 lines from `begin` on
 abbrev pub FitsSoFar : ℕ → ℕ → ℕ → ℕ → (ℕ → ℕ) → (ℕ → ℕ) → ℕ → ℕ → Type 0
 FitsSoFar p shift weight begin A S n k = (j : ℕ) → j < k → S (placeOf p shift weight n ((begin + 1 * j) % p)) ≡ A ((begin + 1 * j) % p)
+
+-- and at one more
+pub fits-more : (p shift weight begin : ℕ) (A S : ℕ → ℕ) (n k t u : ℕ) → t ≡ (begin + 1 * k) % p → u ≡ placeOf p shift weight n t → S u ≡ A t
+    → FitsSoFar p shift weight begin A S n k → FitsSoFar p shift weight begin A S n (k + 1)
+fits-more p shift weight begin A S n k t u e place here so =
+    below-more _ _ so (ap (λ (x : ℕ). S (placeOf p shift weight n x)) (sym e) ∙ ap S (sym place) ∙ here ∙ ap A e)
+
+-- where they do not agree at one, they do not along the line
+pub not-fits : (p shift weight : ℕ) (A S : ℕ → ℕ) (n t u : ℕ) → t < p → u ≡ placeOf p shift weight n t → (S u ≡ A t → ⊥) → Fits p shift weight A S n → ⊥
+not-fits p shift weight A S n t u h place d fits = d (ap S place ∙ fits t h)
 
 -- p lines from any on are all
 pub fits-all : (p shift weight begin : ℕ) (A S : ℕ → ℕ) (n : ℕ) → FitsSoFar p shift weight begin A S n p → Fits p shift weight A S n

@@ -1,6 +1,7 @@
 -- The sums along a row or a column, and the change in it that they ask for. Assumes nothing.
 use mathlib.Core.Path.{_≡_, ap, ap₂, _∙_}
 use Prim.Native.Nat.{ℕ, _+_, _-_, _*_, _%_, _<_}
+use native.Mathlib.Omega.{arith}
 use Rattle.xor.specs.Xor.{_⊕_}
 use Rattle.code.specs.OneLine.{number, through, shifted}
 use Rattle.code.specs.declared.Line.{Line}
@@ -21,6 +22,10 @@ TakenOff p x y = (k : ℕ) → k < p → y k ≡ x k ⊕ x (p - 1)
 -- x holds such sums with the last of them taken off
 abbrev pub Changed : ℕ → ℕ → ℕ → (ℕ → ℕ) → (ℕ → ℕ) → Type 0
 Changed p start weight A x = (k : ℕ) → k < p → x k ≡ A ((start + weight * k) % p) ⊕ A ((start + weight * (p - 1)) % p)
+
+-- so they are made of the sums
+pub changed : (p start weight : ℕ) (A x y : ℕ → ℕ) → 0 < p → Stepping p start weight A x → TakenOff p x y → Changed p start weight A y
+changed p start weight A x y pos h off k l = off k l ∙ ap₂ _⊕_ (h k l) (h (p - 1) (omega arith))
 
 -- x is the line's change
 abbrev pub Shifted : ℕ → (ℕ → ℕ) → Line → (ℕ → ℕ) → Type 0

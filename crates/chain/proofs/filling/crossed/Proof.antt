@@ -6,6 +6,9 @@ use Rattle.chain.specs.Cases.{crossed-close, none-solved, several-solved
 use Rattle.chain.proofs.filling.crossed.Statement.{statement}
 use Rattle.chain.proofs.filling.crossed.Tie as tie
 
+crossed-fillings-requires : tie.Need-crossed-fillings-requires
+crossed-fillings-requires c κs = search needs
+
 enum-told : tie.Need-enum-told
 enum-told c = search needs
 
@@ -18,8 +21,9 @@ enum-told-3 c = search needs
 paired-requires : tie.Need-paired-requires
 paired-requires c κs =
     let told = c .before .before in
-    let start = told .before .before in
-    let one = one-reaches (rw (told .enum-told3 .given .1) at (start .pre .1 .0)) in (
+    let asked = told .before .before in
+    let start = asked .before in
+    let one = one-reaches (rw (told .enum-told3 .given .1) at (asked .crossed-fillings .ensures)) in (
       start .pre .0,
       (
         (omega arith, omega arith, omega arith),
@@ -35,10 +39,10 @@ paired-requires c κs =
     )
 
 returns : tie.Need-returns
-returns c = none-solved (rw (c .enum-told .given .1) at (c .before .before .pre .1 .0))
+returns c = none-solved (rw (c .enum-told .given .1) at (c .before .before .crossed-fillings .ensures))
 
 returns-2 : tie.Need-returns-2
-returns-2 c = several-solved (rw (c .enum-told2 .given .1) at (c .before .before .pre .1 .0))
+returns-2 c = several-solved (rw (c .enum-told2 .given .1) at (c .before .before .crossed-fillings .ensures))
 
 returns-3 : tie.Need-returns-3
 returns-3 c = search needs
@@ -46,4 +50,4 @@ returns-3 c = search needs
 pub crossed-spec : {M : Type 1} → statement M
 crossed-spec =
     tie.close
-    (tie.spec enum-told enum-told-2 enum-told-3 paired-requires returns returns-2 returns-3)
+    (tie.spec crossed-fillings-requires enum-told enum-told-2 enum-told-3 paired-requires returns returns-2 returns-3)

@@ -24,25 +24,15 @@ rows-requires c κs =
 enum-known-second-2 : tie.Need-enum-known-second-2
 enum-known-second-2 c = search needs
 
-crossed-fillings-requires : tie.Need-crossed-fillings-requires
-crossed-fillings-requires c κs =
-    let with-second = c .before .before in
-    let with-first = with-second .before .before .before in
-    let pre = with-first .before .before .pre in
-    let first-lt = rw (with-first .first .given .1) at (pre .1 .1 .0 .1) in
-    let second-lt = rw (with-second .second2 .given .1) at (pre .1 .1 .0 .2) in
-    (pre .0, (pre .1 .0, (omega arith, second-lt, first-lt)))
-
 crossed-requires : tie.Need-crossed-requires
 crossed-requires c κs =
-    let told = c .before .before .before in
-    let with-second = told .before .before .before in
+    let with-second = c .before .before .before .before in
     let with-first = with-second .before .before .before in
     let pre = with-first .before .before .pre in
     let first-lt = rw (with-first .first .given .1) at (pre .1 .1 .0 .1) in
     let second-lt = rw (with-second .second2 .given .1) at (pre .1 .1 .0 .2) in
     let lengths = pre .1 .1 .1 in
-    (pre .0, (told .crossed-fillings .ensures, ((omega arith, second-lt, first-lt, pre .1 .1 .0 .3), (lengths .1, lengths .0))))
+    (pre .0, (pre .1 .0, ((omega arith, second-lt, first-lt, pre .1 .1 .0 .3), (lengths .1, lengths .0))))
 
 enum-known-first-2 : tie.Need-enum-known-first-2
 enum-known-first-2 c = search needs
@@ -50,24 +40,14 @@ enum-known-first-2 c = search needs
 enum-known-second-3 : tie.Need-enum-known-second-3
 enum-known-second-3 c = search needs
 
-crossed-fillings-requires-2 : tie.Need-crossed-fillings-requires-2
-crossed-fillings-requires-2 c κs =
-    let with-second = c .before .before in
-    let with-first = with-second .before .before .before in
-    let pre = with-first .before .before .pre in
-    let first-lt = rw (with-first .first2 .given .1) at (pre .1 .1 .0 .1) in
-    let second-lt = rw (with-second .second3 .given .1) at (pre .1 .1 .0 .2) in
-    (pre .0, (pre .1 .0, (omega arith, first-lt, second-lt)))
-
 crossed-requires-2 : tie.Need-crossed-requires-2
 crossed-requires-2 c κs =
-    let told = c .before .before .before in
-    let with-second = told .before .before .before in
+    let with-second = c .before .before .before .before in
     let with-first = with-second .before .before .before in
     let pre = with-first .before .before .pre in
     let first-lt = rw (with-first .first2 .given .1) at (pre .1 .1 .0 .1) in
     let second-lt = rw (with-second .second3 .given .1) at (pre .1 .1 .0 .2) in
-    (pre .0, (told .crossed-fillings2 .ensures, ((omega arith, first-lt, second-lt, pre .1 .1 .0 .3), pre .1 .1 .1)))
+    (pre .0, (pre .1 .0, ((omega arith, first-lt, second-lt, pre .1 .1 .0 .3), pre .1 .1 .1)))
 
 enum-known-second-4 : tie.Need-enum-known-second-4
 enum-known-second-4 c = search needs
@@ -89,7 +69,7 @@ returns c =
 
 returns-2 : tie.Need-returns-2
 returns-2 c =
-    let with-second = c .before .before .before .before .before .before .before in
+    let with-second = c .before .before .before .before .before in
     let with-first = with-second .before .before .before in
     let start = with-first .before .before in
     rw (with-first .first .given .1, with-second .second2 .given .1)
@@ -98,7 +78,7 @@ returns-2 c =
 
 returns-3 : tie.Need-returns-3
 returns-3 c =
-    let with-second = c .before .before .before .before .before .before .before in
+    let with-second = c .before .before .before .before .before in
     let with-first = with-second .before .before .before in
     rw (with-first .first2 .given .1, with-second .second3 .given .1) (c .crossed2 .ensures)
 
@@ -116,11 +96,9 @@ settle-spec =
     enum-known-second
     rows-requires
     enum-known-second-2
-    crossed-fillings-requires
     crossed-requires
     enum-known-first-2
     enum-known-second-3
-    crossed-fillings-requires-2
     crossed-requires-2
     enum-known-second-4
     columns-requires

@@ -11,7 +11,7 @@ use Rattle.code.specs.Tile.{cell, sum}
 use Rattle.code.specs.Held.{held}
 use Rattle.walk.specs.Bound.{product}
 use Rattle.walk.specs.Fill.{begins, carried}
-use Rattle.search.specs.Line.{placeOf, Fits, FitsSoFar, fits-all, at-first, at-second, place-line, place-next}
+use Rattle.search.specs.Line.{placeOf, Fits, FitsSoFar, fits-more, not-fits, fits-all, at-first, at-second, place-line, place-next}
 use Rattle.search.proofs.line.explaining.Statement.{statement}
 use Rattle.search.proofs.line.explaining.Tie as tie
 
@@ -92,12 +92,16 @@ lines-again c =
     let loop = c .before .before .before .before .loop in
     let stepped = c .before .before .before .before .before in
     let lines = stepped .before .before .lines in
-    let a = stepped .before .before .before .before .before .before .before .args in (
+    let a = stepped .before .before .before .before .before .before .before .args in
+    let A = sum (a .p) 1 (cell (a .p) (a .tile .now)) in
+    let S = held (a .sums .now) in (
       omega arith,
       stepped .step2 .ensures .lt,
       rw (loop .inv .0) (place-line (a .p) (a .shift) (a .weight) (lines .n) (a .begin) (lines .place) _ (lines .inv .2) (stepped .step2 .ensures)),
-      λ k h. below-more (λ j. Fits (a .p) (a .shift) (a .weight) (sum (a .p) 1 (cell (a .p) (a .tile .now))) (held (a .sums .now)) j → ⊥) (lines .n) (lines .inv .3)
-          (λ fit. c .if2 .taken (ap (held (a .sums .now)) (loop .inv .5) ∙ fit (loop .t) (omega arith) ∙ sym (c .before .sum-after .ensures))) k (omega arith),
+      λ k h. below-more (λ j. Fits (a .p) (a .shift) (a .weight) A S j → ⊥) (lines .n) (lines .inv .3)
+          (not-fits (a .p) (a .shift) (a .weight) A S (lines .n) (loop .t) (loop .u) (omega arith) (loop .inv .5)
+          (λ e. c .if2 .taken (e ∙ sym (c .before .sum-after .ensures))))
+          k (omega arith),
     )
 
 step-requires-3 : tie.Need-step-requires-3 Inv-loop μ-loop Inv-lines μ-lines
@@ -126,9 +130,8 @@ loop-again c =
       c .step4 .ensures .lt,
       carried (a .p) (a .begin) 1 (loop .k) (loop .t) _ (loop .inv .4) (c .before .step3 .ensures),
       place-next (a .p) (a .shift) (a .weight) n (loop .t) _ (loop .u) _ (loop .inv .5) (c .before .step3 .ensures) (c .step4 .ensures),
-      below-more _ _ (loop .inv .6)
-          (ap (λ (x : ℕ). S (placeOf (a .p) (a .shift) (a .weight) n x)) (sym (loop .inv .4)) ∙ ap S (sym (loop .inv .5)) ∙ c .before .before .if2 .left
-          ∙ asked .sum-after .ensures ∙ ap A (loop .inv .4)),
+      fits-more (a .p) (a .shift) (a .weight) (a .begin) A S n (loop .k) (loop .t) (loop .u) (loop .inv .4) (loop .inv .5)
+          (c .before .before .if2 .left ∙ asked .sum-after .ensures) (loop .inv .6),
     )
 
 returns : tie.Need-returns Inv-loop μ-loop Inv-lines μ-lines

@@ -1,8 +1,8 @@
 -- `walk::along::shifted` meets its contract. Assumes nothing.
-use mathlib.Core.Path.{ap₂, _∙_}
 use native.Mathlib.Omega.{arith}
 use borrow.Author.Needs.{needs}
-use Rattle.xor.specs.Xor.{_⊕_}
+use Rattle.code.specs.Held.{held}
+use Rattle.walk.specs.Along.{changed}
 use Rattle.walk.proofs.along.shifted.Statement.{statement}
 use Rattle.walk.proofs.along.shifted.Tie as tie
 
@@ -14,8 +14,9 @@ take-off-common-requires c κs = search needs
 
 returns : tie.Need-returns
 returns c =
-    let sums = c .before .before .along .ensures .0 in
-    λ k h. c .take-off-common .ensures k h ∙ ap₂ _⊕_ (sums k h) (sums _ (omega arith))
+    let taken = c .before .before in
+    let a = taken .before .before .args in
+    changed (a .p) (a .start) (a .weight) (held (a .sums .now)) _ _ (omega arith) (taken .along .ensures .0) (c .take-off-common .ensures)
 
 pub shifted-spec : {M : Type 1} → statement M
 shifted-spec = tie.close (tie.spec along-requires take-off-common-requires returns)
