@@ -17,7 +17,7 @@ use Rattle.walk.specs.Along.{Changed, Shifted}
 
 -- where the sum of the second slope stands that belongs to the slope-1 line t along line n
 abbrev pub placeOf : ℕ → ℕ → ℕ → ℕ → ℕ → ℕ
-placeOf p shift weight n t = (shift * n + weight * t) % p
+placeOf p shift weight n t = (weight * t + shift * n) % p
 
 -- the sums A of slope 1 and S of the second slope agree along line n
 abbrev pub Fits : ℕ → ℕ → ℕ → (ℕ → ℕ) → (ℕ → ℕ) → ℕ → Type 0
@@ -58,15 +58,11 @@ at-first p begin k t h e z = sym (e ∙ same p (omega arith) ∙ mod-eq-of-lt h)
 pub at-second : (p begin k t r : ℕ) → t ≡ (begin + 1 * k) % p → Stepped p begin 1 r → k ≡ 1 → r ≡ t
 at-second p begin k t r e s z = s .is ∙ same p (omega arith) ∙ sym e
 
--- the place at the next line, and that of the next slope-1 line
-pub place-line : (p shift weight n t u r : ℕ) → u ≡ placeOf p shift weight n t → Stepped p u shift r → r ≡ placeOf p shift weight (n + 1) t
-place-line p shift weight n t u r e h =
-    h .is ∙ ap (λ (x : ℕ). (x + shift) % p) e ∙ mod-add-mod (shift * n + weight * t) p shift ∙ same p (omega arith)
-
+-- the place at the next slope-1 line
 pub place-next : (p shift weight n t t′ u r : ℕ) → u ≡ placeOf p shift weight n t → Stepped p t 1 t′ → Stepped p u weight r
     → r ≡ placeOf p shift weight n t′
 place-next p shift weight n t t′ u r e ht hu =
-    hu .is ∙ ap (λ (x : ℕ). (x + weight) % p) e ∙ mod-add-mod (shift * n + weight * t) p weight ∙ same p (omega arith)
+    hu .is ∙ ap (λ (x : ℕ). (x + weight) % p) e ∙ mod-add-mod (weight * t + shift * n) p weight ∙ same p (omega arith)
     ∙ add-alike p (weight * (t + 1)) (weight * t′) (shift * n) (sym (mul-mod-mod p weight (t + 1)) ∙ same p (ap (λ (x : ℕ). weight * x) (sym (ht .is))))
     ∙ same p (omega arith)
 
@@ -126,8 +122,7 @@ module _ (p l m : ℕ) (a : Line) (A B S : ℕ → ℕ) (inverse : l * m % p ≡
   place-kth pos lt k =
       let shift = shiftOf p m a in
       let weight = weightOf m a in
-      same p {a = shift * number a + weight * through p 1 a k} (omega arith)
-      ∙ add-alike p (weight * through p 1 a k) (weight * (number a + k)) (shift * number a)
+      add-alike p (weight * through p 1 a k) (weight * (number a + k)) (shift * number a)
       (same p (ap (λ (x : ℕ). weight * x) (sym (from-number p a k))) ∙ mul-mod-mod p weight (number a + 1 * k) ∙ same p (omega arith))
       ∙ same p (omega arith)
       ∙ add-alike p ((shift + weight) * number a) (backOf m a * number a) (weight * k) (mul-alike p _ _ (number a) (shift-back p m a pos lt))

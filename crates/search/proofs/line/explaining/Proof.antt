@@ -11,7 +11,7 @@ use Rattle.code.specs.Tile.{cell, sum}
 use Rattle.code.specs.Held.{held}
 use Rattle.walk.specs.Bound.{product}
 use Rattle.walk.specs.Fill.{begins, carried}
-use Rattle.search.specs.Line.{placeOf, Fits, FitsSoFar, fits-more, not-fits, fits-all, at-first, at-second, place-line, place-next}
+use Rattle.search.specs.Line.{placeOf, Fits, FitsSoFar, fits-more, not-fits, fits-all, at-first, at-second, place-next}
 use Rattle.search.proofs.line.explaining.Statement.{statement}
 use Rattle.search.proofs.line.explaining.Tie as tie
 
@@ -97,7 +97,7 @@ lines-again c =
     let S = held (a .sums .now) in (
       omega arith,
       stepped .step2 .ensures .lt,
-      rw (loop .inv .0) (place-line (a .p) (a .shift) (a .weight) (lines .n) (a .begin) (lines .place) _ (lines .inv .2) (stepped .step2 .ensures)),
+      rw (loop .inv .0) (carried (a .p) (a .weight * a .begin) (a .shift) (lines .n) (lines .place) _ (lines .inv .2) (stepped .step2 .ensures)),
       λ k h. below-more (λ j. Fits (a .p) (a .shift) (a .weight) A S j → ⊥) (lines .n) (lines .inv .3)
           (not-fits (a .p) (a .shift) (a .weight) A S (lines .n) (loop .t) (loop .u) (omega arith) (loop .inv .5)
           (λ e. c .if2 .taken (e ∙ sym (c .before .sum-after .ensures))))
