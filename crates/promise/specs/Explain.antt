@@ -15,10 +15,11 @@ use Rattle.code.specs.OneLine.{number, Agree}
 use Rattle.code.specs.Differ.{agree-at, differ-on}
 use Rattle.code.specs.Distance.{Parallel, equal-tiles}
 use Rattle.code.specs.Filling.{line-agrees, line-filled}
+use Rattle.code.specs.declared.Kind.{Kind}
 use Rattle.code.specs.declared.Line.{Line}
 use Rattle.code.specs.declared.Line.the-variants.{Row, Column}
-use Rattle.promise.specs.Answer.{Said}
-use Rattle.promise.specs.Calls.{Explains, Named, Has}
+use Rattle.promise.specs.Answer.{Said, row}
+use Rattle.promise.specs.Calls.{Looked, Explains, Named, by-row, RepairTold, Has}
 use Rattle.promise.specs.Name.{named-differ, has-name}
 
 -- the line a does not explain x, by any tile
@@ -43,6 +44,11 @@ unexplained-hurt p l a x e u g = u x (good-explains p l a x e g)
 -- a line that holds all cells in which x and y differ explains x by y, if any line does
 pub explains-on : (p l : ℕ) (a b : Line) (x y : List ℕ) → Explains p l a x y → ((i j : ℕ) → Differ p x y i j → On b i j) → Explains p l b x y
 explains-on p l a b x y e on = record { size = e .size; good = e .good; same = differ-on p b x y .1 on }
+
+-- so where repair names a row, the tile that it leaves is a filling of that row
+pub row-fills : {k : Kind} {p l r : ℕ} {x y : List ℕ} → RepairTold k p l x (row r) y → Fills p l (Row r) (Row r) x y
+row-fills {k} {p} {l} {r} {x} {y} (RepairTold.is-hurt h bad (Looked.one o (by-row m))) =
+    explains-fills p l (Row r) x y .0 (explains-on p l (o .is .line) (Row r) x y (o .is .explains) (m .within))
 
 -- a line is parallel to itself
 pub parallel-self : (a : Line) → Parallel a a

@@ -27,6 +27,16 @@ pub enum Repaired {
     Refused(Refusal),
 }
 
+// What comes of a tile that is filled where it carries a flag, and repaired where it carries none.
+pub enum Restored {
+    Clean,
+    Cell(usize, usize),
+    Column(usize),
+    Row(usize),
+    Filled,
+    Refused(Refusal),
+}
+
 // Judges the size, the kind's slope and the tile's length: refusals 1, 2 and 3, in that order.
 pub fn judge_tile(kind: Kind, p: usize, l: usize, cells: usize) -> Judgement
     ensures { λ r. ⌜ Admitted kind p l (cells ≡ tileLength p) (judgementSaid r) ⌝ }
@@ -60,7 +70,7 @@ pub fn judge_text(kind: Kind, p: usize, l: usize, cells: usize, letters: usize) 
 }
 
 // Does a tile of size p have the line?
-fn has(p: usize, line: Line) -> bool
+pub fn has(p: usize, line: Line) -> bool
     ensures { λ r. ⌜ Says r (Has p line) ⌝ }
 {
     if p < 2 {

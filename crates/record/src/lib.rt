@@ -10,8 +10,8 @@ pub fn number(high: u8, low: u8) -> usize
 }
 
 // A number of four bytes, the high ones first.
-pub fn long_number(first: u8, second: u8, third: u8, fourth: u8) -> usize
+pub fn long_number(first: u8, second: u8, third: u8, fourth: u8) -> u32
     ensures { λ r. ⌜ r ≡ bigEndianLong first second third fourth ⌝ }
 {
-    number(first, second) * 65536 + number(third, fourth)
+    (number(first, second) * 65536 + number(third, fourth)) as u32
 }

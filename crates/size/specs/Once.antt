@@ -10,15 +10,15 @@ use Rattle.size.specs.Refusal.{numberOf}
 use Rattle.house.specs.House.{HouseSlope}
 use Rattle.size.specs.Answer.{Said, slope, houseSaid, judgementSaid, HouseTold, given, no-size, Judged, taken, no-slope}
 use Rattle.size.specs.declared.Refusal.{Refusal}
-use Rattle.size.specs.declared.Refusal.the-variants.{BadSize, BadSlope, BadLength, BadPlace, Damaged, BadMark, CutShort, Doubtful, NotGood, DiffersElsewhere}
+use Rattle.size.specs.declared.Refusal.the-variants.{BadSize, BadSlope, BadLength, BadPlace, Damaged, BadMark, CutShort, Doubtful, TooSmall, NotGood, DiffersElsewhere}
 use Rattle.size.specs.declared.House.{House}
 use Rattle.size.specs.declared.House.the-variants.{Slope, Refused}
 use Rattle.size.specs.declared.Judgement.{Judgement}
 use Rattle.size.specs.declared.Judgement.the-variants as judgement
 
--- the refusal that has the number n; none has 9, and BadSize stands in its place
+-- the refusal that has the number n
 abbrev pub refusalOf : ℕ → Refusal
-refusalOf n = getD (BadSize ∷ BadSlope ∷ BadLength ∷ BadPlace ∷ Damaged ∷ BadMark ∷ CutShort ∷ Doubtful ∷ BadSize ∷ NotGood ∷ DiffersElsewhere ∷ []) (n - 1) BadSize
+refusalOf n = getD (BadSize ∷ BadSlope ∷ BadLength ∷ BadPlace ∷ Damaged ∷ BadMark ∷ CutShort ∷ Doubtful ∷ TooSmall ∷ NotGood ∷ DiffersElsewhere ∷ []) (n - 1) BadSize
 
 -- the refusal that has the number of r is r
 pub back : (r : Refusal) → refusalOf (numberOf r) ≡ r
@@ -30,6 +30,7 @@ back Damaged = refl
 back BadMark = refl
 back CutShort = refl
 back Doubtful = refl
+back TooSmall = refl
 back NotGood = refl
 back DiffersElsewhere = refl
 

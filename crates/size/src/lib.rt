@@ -18,6 +18,7 @@ pub enum Refusal {
     BadMark,
     CutShort,
     Doubtful,
+    TooSmall,
     NotGood,
     DiffersElsewhere,
 }
@@ -35,6 +36,7 @@ pub fn number(refusal: Refusal) -> usize
         Refusal::BadMark => 6,
         Refusal::CutShort => 7,
         Refusal::Doubtful => 8,
+        Refusal::TooSmall => 9,
         Refusal::NotGood => 10,
         Refusal::DiffersElsewhere => 11,
     }
