@@ -2,104 +2,110 @@
 -- Assumes nothing.
 use mathlib.Core.Path.{_≡_, refl, sym, ap, _∙_, subst}
 use mathlib.Core.List.{List, []}
-use Prim.Native.Nat.{ℕ, _+_, _-_}
+use Prim.Native.Nat.{ℕ, _+_, _-_, _≤_}
 use native.Mathlib.Omega.{arith}
 use lib.ListN.{length}
 use denote.Ref.{RefT, ptr, now}
 use Rattle.code.specs.Tile.{tileLength}
-use Rattle.code.specs.declared.Kind.{Kind}
 use Rattle.size.specs.Answer as size
 use Rattle.size.specs.Refusal as refusal
 use Rattle.size.specs.Told.{judged-well, judged-no}
 use Rattle.size.specs.Once.{number-once, judged-told-once}
-use Rattle.reel.specs.Reel.{Marked, sizeOf, slopeOf, numberOf, bytesAt, HeaderWhole, RecordWhole}
+use Rattle.header.specs.Header.{headerLength, kindOf, HeaderAt}
+use Rattle.header.specs.Laid.{counted}
+use Rattle.header.specs.Mark.{one-mark, one-header}
+use Rattle.header.specs.declared.Mark.{Mark}
+use Rattle.header.specs.declared.Header.{Header}
 use Rattle.reel.specs.Answer.{Said, tile, end, refused, foundSaid}
-use Rattle.reel.specs.Calls.{NextTold, ends, header-cut, no-mark, refuses, body-cut, stands, afterSaid, AfterTold, PartOf, HandsBack, BytesTold, RestTold}
-use Rattle.reel.specs.Mark.{one-mark}
+use Rattle.reel.specs.Calls.{StartWhole, HeaderJudged, HeaderTold, refuses, no-line, tile-cut, stands, NextTold, ends, start-cut, no-mark, header-cut, headed, afterSaid, AfterTold, PartOf, HandsBack, BytesTold, RestTold}
 use Rattle.reel.specs.Reading.{Begins, MovesTo, SecondTold}
+use Rattle.reel.specs.declared.Tile.{Tile}
 use Rattle.reel.specs.declared.reader.Reader.{Reader}
 use Rattle.reel.specs.declared.Found.{Found}
-use Rattle.reel.specs.declared.Found.the-variants.{Tile, End, Refused}
+use Rattle.reel.specs.declared.Found.the-variants as found
 
 -- ---- at one place one thing is said
 
--- a whole record has a whole header
-header-of : (reel : List ℕ) (at : ℕ) → RecordWhole reel at → HeaderWhole reel at
-header-of reel at w = omega (arith, w)
+module _ (reel : List ℕ) (at : ℕ) (h : Header) where
+  -- the size and the slope of a header are refused with one number, and not both refused and well
+  refused-once : {n n′ : ℕ} → HeaderJudged h (size.refused n) → HeaderJudged h (size.refused n′) → n ≡ n′
+  refused-once {n} {n′} a b = let e = judged-told-once (kindOf (h .mark)) (h .p) (h .l) (size.refused n) (size.refused n′) a b in cc
 
--- a record has one mark, so what is judged for its kind is judged for this one
-module _ (reel : List ℕ) (at : ℕ) {j k : Kind} (m : Marked j reel at) (m′ : Marked k reel at) where
-  same-kind : {said : size.Said} → size.Judged k (sizeOf reel at) (slopeOf reel at) said → size.Judged j (sizeOf reel at) (slopeOf reel at) said
-  same-kind {said} = subst (λ (x : Kind). size.Judged x (sizeOf reel at) (slopeOf reel at) said) (one-mark reel at k j m′ m)
+  no-well : {n : ℕ} → HeaderJudged h (size.refused n) → HeaderJudged h size.well → ⊥
+  no-well a b = judged-no a (judged-well b)
 
-  -- its size and slope are refused with one number ..
-  refused-once : {n n′ : ℕ} → size.Judged j (sizeOf reel at) (slopeOf reel at) (size.refused n)
-      → size.Judged k (sizeOf reel at) (slopeOf reel at) (size.refused n′) → n ≡ n′
-  refused-once {n} {n′} a b =
-      let e = judged-told-once j (sizeOf reel at) (slopeOf reel at) (size.refused n) (size.refused n′) a (same-kind b) in cc
+  header-told-once : (a b : Said) → HeaderTold reel at h a → HeaderTold reel at h b → a ≡ b
+  header-told-once a b (refuses j) (refuses j′) = ap (λ (x : ℕ). refused x at) (refused-once j j′)
+  header-told-once a b (refuses j) (no-line j′ f′) = absurd (no-well j j′)
+  header-told-once a b (refuses j) (tile-cut j′ c′ f′) = absurd (no-well j j′)
+  header-told-once a b (refuses j) (stands j′ c′ w′) = absurd (no-well j j′)
+  header-told-once a b (no-line j f) (refuses j′) = absurd (no-well j′ j)
+  header-told-once a b (no-line j f) (no-line j′ f′) = refl
+  header-told-once a b (no-line j f) (tile-cut j′ c′ f′) = absurd (f c′)
+  header-told-once a b (no-line j f) (stands j′ c′ w′) = absurd (f c′)
+  header-told-once a b (tile-cut j c f) (refuses j′) = absurd (no-well j′ j)
+  header-told-once a b (tile-cut j c f) (no-line j′ f′) = absurd (f′ c)
+  header-told-once a b (tile-cut j c f) (tile-cut j′ c′ f′) = refl
+  header-told-once a b (tile-cut j c f) (stands j′ c′ w′) = absurd (f w′)
+  header-told-once a b (stands j c w) (refuses j′) = absurd (no-well j′ j)
+  header-told-once a b (stands j c w) (no-line j′ f′) = absurd (f′ c)
+  header-told-once a b (stands j c w) (tile-cut j′ c′ f′) = absurd (f′ w)
+  header-told-once a b (stands j c w) (stands j′ c′ w′) = refl
 
-  -- .. and not both refused and well
-  no-well : {n : ℕ} → size.Judged j (sizeOf reel at) (slopeOf reel at) (size.refused n) → size.Judged k (sizeOf reel at) (slopeOf reel at) size.well → ⊥
-  no-well a b = judged-no a (judged-well (same-kind b))
+  -- a whole header has a whole start
+  start-of : HeaderAt reel at h → StartWhole reel at
+  start-of there = omega (arith, there .whole, counted (h .mark) .0)
+
+-- a header that is whole is not cut
+whole-header : {reel : List ℕ} {at : ℕ} {m : Mark} {h : Header} → HeaderAt reel at h → m ≡ h .mark → at + headerLength m ≤ length reel
+whole-header {reel} {at} there e = rw e (there .whole)
 
 pub next-told-once : (reel : List ℕ) (at : ℕ) (a b : Said) → NextTold reel at a → NextTold reel at b → a ≡ b
 next-told-once reel at a b (ends e) (ends e′) = refl
-next-told-once reel at a b (ends e) (header-cut e′ h′) = absurd (omega arith)
-next-told-once reel at a b (ends e) (no-mark h′ m′) = absurd (omega arith)
-next-told-once reel at a b (ends e) (refuses h′ m′ j′) = absurd (omega arith)
-next-told-once reel at a b (ends e) (body-cut h′ m′ j′ w′) = absurd (omega arith)
-next-told-once reel at a b (ends e) (stands w′ m′ j′) = absurd (omega arith)
-next-told-once reel at a b (header-cut e h) (ends e′) = absurd (omega arith)
-next-told-once reel at a b (header-cut e h) (header-cut e′ h′) = refl
-next-told-once reel at a b (header-cut e h) (no-mark h′ m′) = absurd (h h′)
-next-told-once reel at a b (header-cut e h) (refuses h′ m′ j′) = absurd (h h′)
-next-told-once reel at a b (header-cut e h) (body-cut h′ m′ j′ w′) = refl
-next-told-once reel at a b (header-cut e h) (stands w′ m′ j′) = absurd (h (header-of reel at w′))
-next-told-once reel at a b (no-mark h m) (ends e′) = absurd (omega arith)
-next-told-once reel at a b (no-mark h m) (header-cut e′ h′) = absurd (h′ h)
-next-told-once reel at a b (no-mark h m) (no-mark h′ m′) = refl
-next-told-once reel at a b (no-mark h m) (refuses {k} h′ m′ j′) = absurd (m k m′)
-next-told-once reel at a b (no-mark h m) (body-cut {k} h′ m′ j′ w′) = absurd (m k m′)
-next-told-once reel at a b (no-mark h m) (stands {k} w′ m′ j′) = absurd (m k m′)
-next-told-once reel at a b (refuses h m j) (ends e′) = absurd (omega arith)
-next-told-once reel at a b (refuses h m j) (header-cut e′ h′) = absurd (h′ h)
-next-told-once reel at a b (refuses {k} h m j) (no-mark h′ m′) = absurd (m′ k m)
-next-told-once reel at a b (refuses h m j) (refuses h′ m′ j′) = ap (λ (x : ℕ). refused x at) (refused-once reel at m m′ j j′)
-next-told-once reel at a b (refuses h m j) (body-cut h′ m′ j′ w′) = absurd (no-well reel at m m′ j j′)
-next-told-once reel at a b (refuses h m j) (stands w′ m′ j′) = absurd (no-well reel at m m′ j j′)
-next-told-once reel at a b (body-cut h m j w) (ends e′) = absurd (omega arith)
-next-told-once reel at a b (body-cut h m j w) (header-cut e′ h′) = refl
-next-told-once reel at a b (body-cut {k} h m j w) (no-mark h′ m′) = absurd (m′ k m)
-next-told-once reel at a b (body-cut h m j w) (refuses h′ m′ j′) = absurd (no-well reel at m′ m j′ j)
-next-told-once reel at a b (body-cut h m j w) (body-cut h′ m′ j′ w′) = refl
-next-told-once reel at a b (body-cut h m j w) (stands w′ m′ j′) = absurd (w w′)
-next-told-once reel at a b (stands w m j) (ends e′) = absurd (omega arith)
-next-told-once reel at a b (stands w m j) (header-cut e′ h′) = absurd (h′ (header-of reel at w))
-next-told-once reel at a b (stands {k} w m j) (no-mark h′ m′) = absurd (m′ k m)
-next-told-once reel at a b (stands w m j) (refuses h′ m′ j′) = absurd (no-well reel at m′ m j′ j)
-next-told-once reel at a b (stands w m j) (body-cut h′ m′ j′ w′) = absurd (w′ w)
-next-told-once reel at a b (stands {k} w m j) (stands {k = k′} w′ m′ j′) =
-    ap (λ (x : Kind). tile x (numberOf reel at) (sizeOf reel at) (slopeOf reel at) (bytesAt at)) (one-mark reel at k k′ m m′)
+next-told-once reel at a b (ends e) (start-cut e′ f′) = absurd (omega arith)
+next-told-once reel at a b (ends e) (no-mark s′ m′) = absurd (omega arith)
+next-told-once reel at a b (ends e) (header-cut k′ s′ m′ f′) = absurd (omega arith)
+next-told-once reel at a b (ends e) (headed {h} there′ t′) = absurd (omega (arith, start-of reel at h there′))
+next-told-once reel at a b (start-cut e f) (ends e′) = absurd (omega arith)
+next-told-once reel at a b (start-cut e f) (start-cut e′ f′) = refl
+next-told-once reel at a b (start-cut e f) (no-mark s′ m′) = absurd (f s′)
+next-told-once reel at a b (start-cut e f) (header-cut k′ s′ m′ f′) = refl
+next-told-once reel at a b (start-cut e f) (headed {h} there′ t′) = absurd (f (start-of reel at h there′))
+next-told-once reel at a b (no-mark s m) (ends e′) = absurd (omega arith)
+next-told-once reel at a b (no-mark s m) (start-cut e′ f′) = absurd (f′ s)
+next-told-once reel at a b (no-mark s m) (no-mark s′ m′) = refl
+next-told-once reel at a b (no-mark s m) (header-cut k s′ m′ f′) = absurd (m k m′)
+next-told-once reel at a b (no-mark s m) (headed {h} there′ t′) = absurd (m (h .mark) (there′ .marked))
+next-told-once reel at a b (header-cut k s m f) (ends e′) = absurd (omega arith)
+next-told-once reel at a b (header-cut k s m f) (start-cut e′ f′) = refl
+next-told-once reel at a b (header-cut k s m f) (no-mark s′ m′) = absurd (m′ k m)
+next-told-once reel at a b (header-cut k s m f) (header-cut k′ s′ m′ f′) = refl
+next-told-once reel at a b (header-cut k s m f) (headed {h} there′ t′) =
+    absurd (f (whole-header there′ (one-mark reel at k (h .mark) m (there′ .marked))))
+next-told-once reel at a b (headed {h} there t) (ends e′) = absurd (omega (arith, start-of reel at h there))
+next-told-once reel at a b (headed {h} there t) (start-cut e′ f′) = absurd (f′ (start-of reel at h there))
+next-told-once reel at a b (headed {h} there t) (no-mark s′ m′) = absurd (m′ (h .mark) (there .marked))
+next-told-once reel at a b (headed {h} there t) (header-cut k s′ m′ f′) =
+    absurd (f′ (whole-header there (one-mark reel at k (h .mark) m′ (there .marked))))
+next-told-once reel at a b (headed {h} there t) (headed {h = g} there′ t′) =
+    header-told-once reel at g a b (subst (λ (x : Header). HeaderTold reel at x a) (one-header there there′) t) t′
 
 -- ---- so each call has one right answer
 
+pub tile-once : {s t : Tile} → tile s ≡ tile t → s ≡ t
+tile-once {s} {t} e = cc
+
 found-said-once : (a b : Found) → foundSaid a ≡ foundSaid b → a ≡ b
-found-said-once (Tile s) (Tile t) e =
-    let kind : s .kind ≡ t .kind = cc in
-    let number : s .number ≡ t .number = cc in
-    let p : s .p ≡ t .p = cc in
-    let l : s .l ≡ t .l = cc in
-    let at : s .at ≡ t .at = cc in
-    λ i. Tile (record { kind = kind i; number = number i; p = p i; l = l i; at = at i })
-found-said-once (Tile s) End e = cc
-found-said-once (Tile s) (Refused r at) e = cc
-found-said-once End (Tile t) e = cc
-found-said-once End End e = refl
-found-said-once End (Refused r at) e = cc
-found-said-once (Refused q from) (Tile t) e = cc
-found-said-once (Refused q from) End e = cc
-found-said-once (Refused q from) (Refused r at) e =
-    let n : refusal.numberOf q ≡ refusal.numberOf r = cc in let o : from ≡ at = cc in λ i. Refused (number-once q r n i) (o i)
+found-said-once (found.Tile s) (found.Tile t) e = ap found.Tile (tile-once e)
+found-said-once (found.Tile s) found.End e = cc
+found-said-once (found.Tile s) (found.Refused r at) e = cc
+found-said-once found.End (found.Tile t) e = cc
+found-said-once found.End found.End e = refl
+found-said-once found.End (found.Refused r at) e = cc
+found-said-once (found.Refused q from) (found.Tile t) e = cc
+found-said-once (found.Refused q from) found.End e = cc
+found-said-once (found.Refused q from) (found.Refused r at) e =
+    let n : refusal.numberOf q ≡ refusal.numberOf r = cc in let o : from ≡ at = cc in λ i. found.Refused (number-once q r n i) (o i)
 
 pub next-once : (reel : List ℕ) (at : ℕ) (a b : Found) → NextTold reel at (foundSaid a) → NextTold reel at (foundSaid b) → a ≡ b
 next-once reel at a b s t = found-said-once a b (next-told-once reel at (foundSaid a) (foundSaid b) s t)
@@ -108,9 +114,8 @@ pub after-once : (reel : List ℕ) (at a b : ℕ) → AfterTold reel at a → Af
 after-once reel at a b s t = s .is ∙ ap (afterSaid at) (next-told-once reel at (s .said) (t .said) (s .told) (t .told)) ∙ sym (t .is)
 
 -- behind a tile it is the place right behind the tile's bytes
-pub after-tile : {reel : List ℕ} {k : Kind} {at number p l from to : ℕ} → NextTold reel at (tile k number p l from) → AfterTold reel at to → to ≡ from + tileLength p
-after-tile {reel} {k} {at} {number} {p} {l} {from} {to} told after =
-    after-once reel at to (from + tileLength p) after (record { said = tile k number p l from; told = told; is = refl })
+pub after-tile : {reel : List ℕ} {at to : ℕ} {t : Tile} → NextTold reel at (tile t) → AfterTold reel at to → to ≡ t .at + tileLength (t .p)
+after-tile {reel} {at} {to} {t} told after = after-once reel at to (t .at + tileLength (t .p)) after (record { said = tile t; told = told; is = refl })
 
 -- what two parts have in common that are allowed for the same call
 pub record Same (a b : RefT (List ℕ)) : Type 0 where
@@ -125,7 +130,7 @@ nones-same : (a b : RefT (List ℕ)) → now a ≡ [] → now b ≡ [] → Same 
 nones-same a b e f = record { bytes = e ∙ sym f; place = λ some. absurd (some e) }
 
 hands-same : (reel a b : RefT (List ℕ)) (said : Said) → HandsBack reel said a → HandsBack reel said b → Same a b
-hands-same reel a b (tile k number p l from) s t = parts-same reel a b from (tileLength p) s t
+hands-same reel a b (tile t) x y = parts-same reel a b (t .at) (tileLength (t .p)) x y
 hands-same reel a b end s t = nones-same a b s t
 hands-same reel a b (refused n from) s t = nones-same a b s t
 

@@ -9,36 +9,34 @@ use denote.Ref.{RefT, now}
 use Rattle.residue.specs.Size.{Size}
 use Rattle.code.specs.Kind.{Takes}
 use Rattle.code.specs.Tile.{tileLength}
-use Rattle.code.specs.declared.Kind.{Kind}
 use Rattle.reel.specs.Answer.{Said, tile, end, NoTile}
 use Rattle.reel.specs.Calls.{NextTold, ends, AfterTold, PartOf, HandsBack, BytesTold, RestTold}
 use Rattle.reel.specs.Told.{tile-taken, tile-within, after-stays, rest-drops}
 use Rattle.reel.specs.Once.{next-told-once, after-once}
 use Rattle.reel.specs.Reading.{MovesTo}
+use Rattle.reel.specs.declared.Tile.{Tile}
 use Rattle.reel.specs.declared.reader.Reader.{Reader}
 
 -- a tile that is answered has a size, and a slope that its kind takes there, and lies within the reel; its bytes are (p-1)² long, and stand
 -- there
-pub record Stands (reel bytes : RefT (List ℕ)) (k : Kind) (p l from : ℕ) : Type 0 where
-  pub size : Size p
-  pub slope : Takes k p l
-  pub within : from + tileLength p ≤ length (now reel)
-  pub long : length (now bytes) ≡ tileLength p
-  pub part : PartOf reel bytes from (tileLength p)
+pub record Stands (reel bytes : RefT (List ℕ)) (t : Tile) : Type 0 where
+  pub size : Size (t .p)
+  pub slope : Takes (t .kind) (t .p) (t .l)
+  pub within : t .at + tileLength (t .p) ≤ length (now reel)
+  pub long : length (now bytes) ≡ tileLength (t .p)
+  pub part : PartOf reel bytes (t .at) (tileLength (t .p))
 
-pub tile-stands : (reel bytes : RefT (List ℕ)) (at : ℕ) (k : Kind) (number p l from : ℕ) → NextTold (now reel) at (tile k number p l from)
-    → BytesTold reel at bytes → Stands reel bytes k p l from
-tile-stands reel bytes at k number p l from told handed = record {
+pub tile-stands : (reel bytes : RefT (List ℕ)) (at : ℕ) (t : Tile) → NextTold (now reel) at (tile t) → BytesTold reel at bytes → Stands reel bytes t
+tile-stands reel bytes at t told handed = record {
   size = tile-taken told .0;
   slope = tile-taken told .1;
   within = tile-within told;
-  long = ap length (part .holds) ∙ length-take-le (tileLength p) (drop from (now reel)) (omega (arith, tile-within told, length-drop from (now reel)));
+  long = ap length (part .holds) ∙ length-take-le (tileLength (t .p)) (drop (t .at) (now reel)) (omega (arith, tile-within told, length-drop (t .at) (now reel)));
   part = part;
 }
   where
-    part : PartOf reel bytes from (tileLength p)
-    part =
-        subst (λ (s : Said). HandsBack reel s bytes) (next-told-once (now reel) at (handed .said) (tile k number p l from) (handed .told) told) (handed .are)
+    part : PartOf reel bytes (t .at) (tileLength (t .p))
+    part = subst (λ (s : Said). HandsBack reel s bytes) (next-told-once (now reel) at (handed .said) (tile t) (handed .told) told) (handed .are)
 
 -- where the reel has no byte there is the end, however far behind the last byte it is asked for
 pub past-end : (reel : List ℕ) (at : ℕ) (said : Said) → length reel ≤ at → NextTold reel at said → said ≡ end

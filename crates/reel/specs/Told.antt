@@ -1,67 +1,67 @@
 -- What an answer tells of the reel that was asked about. Assumes nothing.
-use mathlib.Core.Path.{_≡_, refl, sym, ap, _∙_}
+use mathlib.Core.Path.{_≡_, refl, ap, _∙_}
 use mathlib.Core.List.{List, []}
-use Prim.Native.Nat.{ℕ, _+_, _-_, _<_, _≤_}
+use Prim.Native.Nat.{ℕ, _+_, _-_, _≤_}
 use native.Mathlib.Omega.{arith}
-use lib.Dec.{T, ltb, lit<}
 use lib.ListN.{length, drop, length-drop}
 use lib.Seq.{take-all}
 use denote.Ref.{RefT, now}
 use Rattle.residue.specs.Size.{Size}
 use Rattle.code.specs.Kind.{Takes}
 use Rattle.code.specs.Tile.{tileLength}
+use Rattle.flag.specs.Flag.{flagNumber, Short}
 use Rattle.code.specs.declared.Kind.{Kind}
-use Rattle.code.specs.declared.Kind.the-variants.{New, Old}
-use Rattle.record.specs.Number.{bigEndian, bigEndianLong}
-use Rattle.size.specs.Answer.{well, Judged}
+use Rattle.size.specs.Answer as size
 use Rattle.size.specs.Told.{judged-well}
-use Rattle.reel.specs.Reel.{byteOf, Marked, sizeOf, slopeOf, numberOf, bytesAt, HeaderWhole, RecordWhole}
+use Rattle.code.specs.declared.Kind.the-variants.{New}
+use Rattle.code.specs.declared.Line.{Line}
+use Rattle.promise.specs.Calls.{Has}
+use Rattle.record.specs.Number.{bigEndian}
+use Rattle.flag.specs.Back.{number-back}
+use Rattle.header.specs.Header.{byteOf, Marked, kindOf, headerLength, flagAt, LineCarried, Carries}
+use Rattle.header.specs.Mark.{one-mark}
+use Rattle.header.specs.declared.Mark.{Mark}
+use Rattle.header.specs.declared.Mark.the-variants.{Flagged}
+use Rattle.header.specs.Laid.{counted, carried-short}
+use Rattle.header.specs.declared.Header.{Header}
 use Rattle.reel.specs.Answer.{Said, tile, end, refused, NoTile}
-use Rattle.reel.specs.Calls.{NextTold, header-cut, no-mark, refuses, body-cut, stands, afterSaid, HandsBack, RestTold}
+use Rattle.reel.specs.Calls.{HeaderJudged, TileWhole, HeaderTold, refuses, no-line, tile-cut, stands, NextTold, start-cut, no-mark, header-cut, headed, afterSaid, HandsBack, RestTold}
+use Rattle.reel.specs.declared.Tile.{Tile}
 
--- two headers whose bytes are the same say the same
-module _ (a b : List ℕ) (i j : ℕ) (same : (n : ℕ) → n < bytesAt 0 → byteOf a i n ≡ byteOf b j n) where
-  byte : (n : ℕ) → T (ltb n 10) → byteOf a i n ≡ byteOf b j n
-  byte n h = same n (lit< h)
+-- a tile stands there, told with its kind and the offset of its bytes as they were worked out
+pub stands-told : (reel : List ℕ) (at : ℕ) (h : Header) (k : Kind) (from : ℕ) → k ≡ kindOf (h .mark) → from ≡ at + headerLength (h .mark)
+    → HeaderJudged h size.well → Carries h → TileWhole reel at h
+    → HeaderTold reel at h (tile (record { kind = k; number = h .number; p = h .p; l = h .l; first = h .first; second = h .second; at = from }))
+stands-told reel at h k from e f j c w = rw (e, f) (stands j c w)
 
-  pub same-marked : (k : Kind) → Marked k b j → Marked k a i
-  same-marked New m = (byte 0 tt ∙ m .0, byte 1 tt ∙ m .1)
-  same-marked Old m = (byte 0 tt ∙ m .0, byte 1 tt ∙ m .1)
+-- a tile's size is one, and its slope is one that its kind takes there; its bytes lie within the reel, behind the place by a header
+pub tile-taken : {reel : List ℕ} {at : ℕ} {t : Tile} → NextTold reel at (tile t) → Size (t .p) × Takes (t .kind) (t .p) (t .l)
+tile-taken (headed there (stands j c w)) = judged-well j
 
-  pub same-size : sizeOf a i ≡ sizeOf b j
-  same-size = λ k. bigEndian (byte 2 tt k) (byte 3 tt k)
+pub tile-within : {reel : List ℕ} {at : ℕ} {t : Tile} → NextTold reel at (tile t) → t .at + tileLength (t .p) ≤ length reel
+tile-within (headed there (stands j c w)) = w
 
-  pub same-slope : slopeOf a i ≡ slopeOf b j
-  same-slope = λ k. bigEndian (byte 4 tt k) (byte 5 tt k)
+pub tile-behind : {reel : List ℕ} {at : ℕ} {t : Tile} → NextTold reel at (tile t) → at + 10 ≤ t .at
+tile-behind (headed {h} there (stands j c w)) = omega (arith, counted (h .mark) .0)
 
-  pub same-number : numberOf a i ≡ numberOf b j
-  same-number = λ k. bigEndianLong (byte 6 tt k) (byte 7 tt k) (byte 8 tt k) (byte 9 tt k)
+-- its flags have numbers of two bytes
+pub tile-flags : {reel : List ℕ} {at : ℕ} {t : Tile} → NextTold reel at (tile t) → Short (t .first) × Short (t .second)
+tile-flags (headed {h} there (stands j c w)) =
+    let high = judged-well j .0 .high in (carried-short (h .mark) (h .p) (h .first) high (c .0), carried-short (h .mark) (h .p) (h .second) high (c .1))
 
--- what the header was read to say stands for what it says: a tile whose bytes are cut short, and one that is whole
-module _ (reel : List ℕ) (at : ℕ) (k : Kind) (p l count : ℕ) (size : p ≡ sizeOf reel at) (slope : l ≡ slopeOf reel at) (long : count ≡ tileLength p) where
-  pub cut-told : HeaderWhole reel at → Marked k reel at → Judged k p l well → length reel < bytesAt at + count → NextTold reel at (refused 7 at)
-  cut-told h m j c = body-cut h m (rw (size, slope) at j) (λ w. omega (arith, w, sized))
-    where
-      sized : count ≡ tileLength (sizeOf reel at)
-      sized = long ∙ ap tileLength size
+-- THE FLAGS ARE TOLD AS THEY STAND: the numbers of the two flags of a flagged record are those in its bytes
+pub flags-stand : {reel : List ℕ} {at : ℕ} {t : Tile} → NextTold reel at (tile t) → Marked Flagged reel at
+    → (flagNumber (t .first) ≡ bigEndian (byteOf reel at 10) (byteOf reel at 11)) × (flagNumber (t .second) ≡ bigEndian (byteOf reel at 12) (byteOf reel at 13))
+flags-stand {reel} {at} (headed {h} there (stands j c w)) m =
+    let flagged = one-mark reel at (h .mark) Flagged (there .marked) m in
+    let as-flagged : (n : ℕ) → flagAt (h .mark) reel at n ≡ flagAt Flagged reel at n = λ n. ap (λ (k : Mark). flagAt k reel at n) flagged in (
+      ap flagNumber (there .first ∙ as-flagged 10) ∙ number-back (bigEndian (byteOf reel at 10) (byteOf reel at 11)),
+      ap flagNumber (there .second ∙ as-flagged 12) ∙ number-back (bigEndian (byteOf reel at 12) (byteOf reel at 13)),
+    )
 
-  pub stands-told : (number : ℕ) → number ≡ numberOf reel at → Marked k reel at → Judged k p l well → bytesAt at + count ≤ length reel
-      → NextTold reel at (tile k number p l (bytesAt at))
-  stands-told number named m j w =
-      let whole : RecordWhole reel at = omega (arith, long ∙ ap tileLength size) in
-      let told : NextTold reel at (tile k (numberOf reel at) (sizeOf reel at) (slopeOf reel at) (bytesAt at)) = stands whole m (rw (size, slope) at j) in
-      rw (sym size, sym slope, sym named) at told
-
--- a tile's size is one, and its slope is one that its kind takes there; its bytes lie within the reel
-pub tile-taken : {reel : List ℕ} {k : Kind} {at number p l from : ℕ} → NextTold reel at (tile k number p l from) → Size p × Takes k p l
-tile-taken (stands w m j) = judged-well j
-
-pub tile-within : {reel : List ℕ} {k : Kind} {at number p l from : ℕ} → NextTold reel at (tile k number p l from) → from + tileLength p ≤ length reel
-tile-within (stands w m j) = w
-
--- they begin behind the header, which begins at the place
-pub tile-behind : {reel : List ℕ} {k : Kind} {at number p l from : ℕ} → NextTold reel at (tile k number p l from) → from ≡ bytesAt at
-tile-behind (stands w m j) = refl
+-- a record that carries a line's flag is that of a new tile, which has the line
+pub carried-line : (m : Mark) (p : ℕ) (a : Line) → LineCarried m p a → (kindOf m ≡ New) × Has p a
+carried-line Flagged p a c = (refl, c)
 
 -- where no tile stands, the place behind it is the place itself, and no bytes are handed back
 pub after-stays : (at : ℕ) (said : Said) → NoTile said → at ≡ afterSaid at said
@@ -74,10 +74,12 @@ hands-none reel bytes (refused k from) n e = e
 
 -- a refusal has the place that was asked for as its offset
 pub refusal-stays : {reel : List ℕ} {at n from : ℕ} → NextTold reel at (refused n from) → from ≡ at
-refusal-stays (header-cut h f) = refl
+refusal-stays (start-cut h f) = refl
 refusal-stays (no-mark h f) = refl
-refusal-stays (refuses h m j) = refl
-refusal-stays (body-cut h m j f) = refl
+refusal-stays (header-cut k h m f) = refl
+refusal-stays (headed there (refuses j)) = refl
+refusal-stays (headed there (no-line j f)) = refl
+refusal-stays (headed there (tile-cut j c f)) = refl
 
 -- the rest is the reel from a place on
 pub rest-drops : (reel rest : RefT (List ℕ)) (at : ℕ) (told : RestTold reel at rest) → now rest ≡ drop (told .from) (now reel)

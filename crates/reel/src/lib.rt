@@ -1,25 +1,29 @@
-// The reel: tiles on a film, one record behind the other, of two kinds that their marks tell apart. What stands at a place of it is a tile,
+// The reel: tiles on a film, one record behind the other, of three sorts that their marks tell apart. What stands at a place of it is a tile,
 // the end, or a refusal. A tile's bytes, and the reel behind them, are handed back as parts of the reel that was lent. All offsets are those
 // of that reel.
 pub mod reader;
 
 use code::Kind;
+use flag::Flag;
+use header::Header;
+use header::Start;
 use size::Judgement;
 use size::Refusal;
 ghost use mathlib.Core.Path.{_≡_};
 ghost use Rattle.residue.specs.Size.{Size};
 ghost use Rattle.code.specs.Tile.{tileLength};
-ghost use Rattle.reel.specs.Reel.{HeaderWhole, sizeOf, slopeOf, numberOf};
-ghost use Rattle.reel.specs.Mark.{MarkIs, HasMark};
+ghost use Rattle.header.specs.Header.{HeaderAt};
 ghost use Rattle.reel.specs.Answer.{foundSaid};
-ghost use Rattle.reel.specs.Calls.{NextTold, BytesTold, AfterTold, RestTold};
+ghost use Rattle.reel.specs.Calls.{HeaderTold, NextTold, BytesTold, AfterTold, RestTold};
 
-// A tile on the reel: its kind, number, size and slope, and where its bytes begin.
+// A tile on the reel: its kind, number, size and slope, its two flags as they stand there, and where its bytes begin.
 pub struct Tile {
     pub kind: Kind,
     pub number: usize,
     pub p: usize,
     pub l: usize,
+    pub first: Flag,
+    pub second: Flag,
     pub at: usize,
 }
 
@@ -30,57 +34,6 @@ pub enum Found {
     Refused(Refusal, usize),
 }
 
-// The mark that a new record begins with, as a number of two bytes ..
-const NEW_MARK: usize = 0xD55D;
-
-// .. and the mark of an old one, the same two bytes the other way round.
-const OLD_MARK: usize = 0x5DD5;
-
-// How many bytes of a record stand before the tile's.
-const HEADER: usize = 10;
-
-// What the first two bytes of a record are: the mark of a kind, or of neither.
-enum Mark {
-    Of(Kind),
-    Neither,
-}
-
-// Which kind's mark a number is. New records are the common ones, and are asked for first.
-fn mark_of(number: usize) -> Mark
-    ensures { λ r. ⌜ MarkIs number r ⌝ }
-{
-    if number == NEW_MARK {
-        return Mark::Of(Kind::New);
-    }
-    if number == OLD_MARK {
-        return Mark::Of(Kind::Old);
-    }
-    Mark::Neither
-}
-
-// What stands before a tile's bytes.
-struct Header {
-    mark: Mark,
-    p: usize,
-    l: usize,
-    number: usize,
-}
-
-// The header of the record at a place, taken apart. Here alone the code knows how a record is laid out.
-fn header_at(reel: &[u8], at: usize) -> Header
-    requires { ⌜ HeaderWhole (now reel) at ⌝ }
-    ensures { λ r. ⌜ HasMark (now (reel .entry)) at (r .mark) ⌝ }
-    ensures { λ r. ⌜ (r .p ≡ sizeOf (now (reel .entry)) at) × (r .l ≡ slopeOf (now (reel .entry)) at) ⌝ }
-    ensures { λ r. ⌜ r .number ≡ numberOf (now (reel .entry)) at ⌝ }
-{
-    Header {
-        mark: mark_of(record::number(reel[at], reel[at + 1])),
-        p: record::number(reel[at + 2], reel[at + 3]),
-        l: record::number(reel[at + 4], reel[at + 5]),
-        number: record::long_number(reel[at + 6], reel[at + 7], reel[at + 8], reel[at + 9]),
-    }
-}
-
 // How many bytes a tile of size p has.
 fn tile_length(p: usize) -> usize
     requires { ⌜ Size p ⌝ }
@@ -89,36 +42,53 @@ fn tile_length(p: usize) -> usize
     (p - 1) * (p - 1)
 }
 
-// What stands at a place. The refusals come in this order: 7 if the header is cut, 6, 1, 2 by the mark's kind, and 7 if the tile is cut
-// (SPEC 7.2).
+// What stands at a place. The refusals come in this order: 7 if not even the shortest header is whole, 6, 7 if the mark's header is cut, and
+// then those of `judged` (SPEC 7.2).
 pub fn next(reel: &[u8], at: usize) -> Found
     ensures { λ r. ⌜ NextTold (now (reel .entry)) at (foundSaid r) ⌝ }
 {
     if reel.len() <= at {
         return Found::End;
     }
-    if reel.len() - at < HEADER {
+    if reel.len() - at < header::SHORTEST {
         return Found::Refused(Refusal::CutShort, at);
     }
-    let header = header_at(reel, at);
-    let mark = header.mark;
-    let Mark::Of(kind) = mark else {
+    let Start::With(mark) = header::mark_at(reel, at) else {
         return Found::Refused(Refusal::BadMark, at);
     };
+    if reel.len() - at < header::length(mark) {
+        return Found::Refused(Refusal::CutShort, at);
+    }
+    judged(reel, at, header::read(reel, at, mark))
+}
+
+// What stands at a place, by its header: refused 1, 2 by the mark's kind, 4 for a flag that the record cannot carry, 7 if the tile is cut.
+fn judged(reel: &[u8], at: usize, header: Header) -> Found
+    requires { ⌜ HeaderAt (now reel) at header ⌝ }
+    ensures { λ r. ⌜ HeaderTold (now (reel .entry)) at header (foundSaid r) ⌝ }
+{
+    let mark = header.mark;
+    let kind = header::kind(mark);
     let p = header.p;
     let l = header.l;
     match size::judge(kind, p, l) {
         Judgement::Refused(refusal) => Found::Refused(refusal, at),
         Judgement::Taken => {
-            let bytes = at + HEADER;
-            if reel.len() - bytes < tile_length(p) {
+            let bytes = at + header::length(mark);
+            if !header::carries(header) {
+                Found::Refused(Refusal::BadPlace, at)
+            } else if reel.len() - bytes < tile_length(p) {
                 Found::Refused(Refusal::CutShort, at)
             } else {
+                let first = header.first;
+                let second = header.second;
                 Found::Tile(Tile {
                     kind,
-                    number: header.number,
+                    number: header.number as usize,
                     p,
                     l,
+                    first,
+                    second,
                     at: bytes,
                 })
             }

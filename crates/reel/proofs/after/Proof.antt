@@ -32,7 +32,7 @@ returns-2 : tie.Need-returns-2
 returns-2 c =
     let found = c .before .before .tile .given .0 .0 in
     record {
-      said = tile (found .kind) (found .number) (found .p) (found .l) (found .at);
+      said = tile found;
       told = rw (c .before .before .tile .given .1) at (c .before .before .before .before .next .ensures);
       is = ap (λ (n : ℕ). found .at + n) (c .tile-length .ensures);
     }

@@ -54,7 +54,7 @@ returns-2 c =
     let count = c .before .tile-length in
     let reel = c .before .before .before .before .before .before .before .args .reel .now in
     record {
-      said = tile (found .kind) (found .number) (found .p) (found .l) (found .at);
+      said = tile found;
       told = rw (c .before .before .before .tile .given .1) at (c .before .before .before .before .before .next .ensures);
       are = record { holds = ap (λ (n : ℕ). take n (drop (found .at) reel)) (add-sub-cancel-left (found .at) (count .result) ∙ count .ensures); own = λ n. refl };
     }
