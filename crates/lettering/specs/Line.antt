@@ -39,16 +39,16 @@ space = ascii " "
 abbrev pub lf : List ℕ
 lf = ascii "\n"
 
--- SPEC 8.1: the last fields of a tile's line, by what repair answers. (`done` is no answer of repair.)
+-- SPEC 8.1: the last fields of a tile's line, by what comes of restoring it (7.6). `done` is what fill says
 unfoldable pub stateText : Said → List ℕ
-stateText done = []
+stateText done = ascii "filled"
 stateText clean = ascii "clean"
 stateText (cell r c) = ascii "cell" ++ space ++ decimal r ++ space ++ decimal c
 stateText (column c) = ascii "column" ++ space ++ decimal c
 stateText (row r) = ascii "row" ++ space ++ decimal r
 stateText (refused n) = ascii "refused" ++ space ++ decimal n
 
--- SPEC 8.1: the line of a tile: its number, its size, its slope, and what repair answers
+-- SPEC 8.1: the line of a tile: its number, its size, its slope, and what comes of restoring it
 unfoldable pub tileLine : ℕ → ℕ → ℕ → Said → List ℕ
 tileLine number p l said = decimal number ++ space ++ decimal p ++ space ++ decimal l ++ space ++ stateText said ++ lf
 

@@ -1,13 +1,13 @@
 // The lines of a listing: that of a tile, and the closing ones.
 use crate::bytes;
-use promise::Repaired;
+use promise::Restored;
 use size::Refusal;
 ghost use mathlib.Core.Path.{_≡_};
 ghost use mathlib.Core.List.{_++_, [], _∷_};
 ghost use Prim.Native.Nat.{_+_, _≤_};
 ghost use lib.ListN.{length, take};
 ghost use Rattle.size.specs.Refusal.{numberOf};
-ghost use Rattle.promise.specs.Answer.{repairSaid};
+ghost use Rattle.promise.specs.Answer.{restoreSaid};
 ghost use Rattle.lettering.specs.Line.{Holds, lf, decimal, stateText, tileLine, endLine, stoppedLine};
 
 // A line: the first `length` of its bytes. There is room for every line: five numbers of at most 20 digits, the word `cell`, the spaces
@@ -55,21 +55,22 @@ fn with_number(line: Line, n: usize, sign: u8) -> Line
     with_words(with_words(line, &digits[..count]), &end)
 }
 
-// The line with what repair says behind what it has, and the LF.
-fn with_state(line: Line, state: Repaired) -> Line
+// The line with what comes of restoring a tile behind what it has, and the LF.
+fn with_state(line: Line, state: Restored) -> Line
     requires { ⌜ line .length ≤ 63 ⌝ }
-    ensures { λ r. ⌜ Holds (r .bytes) (r .length) (take (line .length) (line .bytes) ++ stateText (repairSaid state) ++ lf) ⌝ }
+    ensures { λ r. ⌜ Holds (r .bytes) (r .length) (take (line .length) (line .bytes) ++ stateText (restoreSaid state) ++ lf) ⌝ }
 {
     match state {
-        Repaired::Clean => with_words(line, b"clean\n"),
-        Repaired::Cell(r, c) => with_number(
+        Restored::Clean => with_words(line, b"clean\n"),
+        Restored::Cell(r, c) => with_number(
             with_number(with_words(line, b"cell "), r, b' '),
             c,
             b'\n',
         ),
-        Repaired::Column(c) => with_number(with_words(line, b"column "), c, b'\n'),
-        Repaired::Row(r) => with_number(with_words(line, b"row "), r, b'\n'),
-        Repaired::Refused(no) => with_number(
+        Restored::Column(c) => with_number(with_words(line, b"column "), c, b'\n'),
+        Restored::Row(r) => with_number(with_words(line, b"row "), r, b'\n'),
+        Restored::Filled => with_words(line, b"filled\n"),
+        Restored::Refused(no) => with_number(
             with_words(line, b"refused "),
             size::number(no),
             b'\n',
@@ -77,9 +78,9 @@ fn with_state(line: Line, state: Repaired) -> Line
     }
 }
 
-// The line of a tile: its number, size and slope, and what repair says of it.
-pub fn tile_line(number: usize, p: usize, l: usize, state: Repaired) -> Line
-    ensures { λ r. ⌜ Holds (r .bytes) (r .length) (tileLine number p l (repairSaid state)) ⌝ }
+// The line of a tile: its number, size and slope, and what comes of restoring it.
+pub fn tile_line(number: usize, p: usize, l: usize, state: Restored) -> Line
+    ensures { λ r. ⌜ Holds (r .bytes) (r .length) (tileLine number p l (restoreSaid state)) ⌝ }
 {
     let numbered = with_number(nothing(), number, b' ');
     let sized = with_number(numbered, p, b' ');

@@ -2,5 +2,6 @@
 pub mod Listing
 pub mod Reached
 pub mod Once
+pub mod Flags
 pub mod Worked
 pub mod Shams

@@ -1,36 +1,31 @@
 -- The contracts settle the lines: a place has one line, and a reel one closing line. Assumes nothing.
-use mathlib.Core.Path.{_≡_, ap}
+use mathlib.Core.Path.{_≡_, ap, subst}
 use mathlib.Core.List.{List}
 use Prim.Native.Nat.{ℕ}
 use native.Mathlib.Omega.{arith}
 use lib.ListN.{length, take, drop}
 use Rattle.code.specs.Tile.{tileLength}
-use Rattle.code.specs.declared.Kind.{Kind}
-use Rattle.promise.specs.Answer as repair
-use Rattle.promise.specs.Once.{repair-told-once}
-use Rattle.reel.specs.Answer.{Said, tile}
-use Rattle.reel.specs.Once.{next-told-once}
+use Rattle.promise.specs.Answer as restore
+use Rattle.restorer.specs.Once.{restore-told-once}
+use Rattle.reel.specs.Answer.{tile}
+use Rattle.reel.specs.Once.{next-told-once, tile-once}
 use Rattle.reel.specs.Walks.{walk-once}
+use Rattle.reel.specs.declared.Tile.{Tile}
 use Rattle.lettering.specs.Line.{tileLine, endLine, stoppedLine}
-use Rattle.listing.specs.Listing.{RepairSays, TileListed, lists, Closes, ends, stops}
+use Rattle.listing.specs.Listing.{RestoreSays, TileListed, lists, Closes, ends, stops}
 
--- repair says one thing
-says-once : (k : Kind) (p l : ℕ) (bytes : List ℕ) (a b : repair.Said) → RepairSays k p l bytes a → RepairSays k p l bytes b → a ≡ b
-says-once k p l bytes a b x y = repair-told-once k p l bytes a b (x .new) (y .new) (x .told) (y .told) .0
+-- restoring a tile says one thing
+says-once : (t : Tile) (bytes : List ℕ) (a b : restore.Said) → RestoreSays t bytes a → RestoreSays t bytes b → a ≡ b
+says-once t bytes a b x y = restore-told-once (t .kind) (t .p) (t .l) bytes (t .first) (t .second) a b (x .new) (y .new) (x .told) (y .told) .0
 
 pub listed-once : {reel : List ℕ} {at : ℕ} {a b : List ℕ} → TileListed reel at a → TileListed reel at b → a ≡ b
-listed-once {reel} {at} (lists {k} {number} {p} {l} {from} {said} told says) (lists {k = other-kind} {number = m} {p = q} {l = j} {from = start} {said = other} told′ says′) =
-    let e = next-told-once reel at (tile k number p l from) (tile other-kind m q j start) told told′ in
-    let k-is : k ≡ other-kind = cc in
-    let n-is : number ≡ m = cc in
-    let p-is : p ≡ q = cc in
-    let l-is : l ≡ j = cc in
-    let from-is : from ≡ start = cc in
-    let said-is : said ≡ other = says-once other-kind q j (take (tileLength q) (drop start reel)) said other (rw (k-is, p-is, l-is, from-is) at says) says′ in
-    λ i. tileLine (n-is i) (p-is i) (l-is i) (said-is i)
+listed-once {reel} {at} (lists {t} {said} told says) (lists {t = u} {said = other} told′ says′) =
+    let e = tile-once (next-told-once reel at (tile t) (tile u) told told′) in
+    let said-is = says-once u (take (tileLength (u .p)) (drop (u .at) reel)) said other (subst (λ (x : Tile). RestoreSays x (take (tileLength (x .p)) (drop (x .at) reel)) said) e says) says′ in
+    λ i. tileLine (e i .number) (e i .p) (e i .l) (said-is i)
 
 pub closes-once : {reel : List ℕ} {a b : List ℕ} → Closes reel a → Closes reel b → a ≡ b
-closes-once (ends x) (ends y) = ap (λ (tiles : List Said). endLine (length tiles)) (walk-once x y .0)
+closes-once (ends x) (ends y) = ap (λ (tiles : List Tile). endLine (length tiles)) (walk-once x y .0)
 closes-once (ends x) (stops y) = let e = walk-once x y .1 in let z : _≡_ {A = ℕ} 0 1 = cc in absurd (omega arith)
 closes-once (stops x) (ends y) = let e = walk-once x y .1 in let z : _≡_ {A = ℕ} 0 1 = cc in absurd (omega arith)
 closes-once (stops {n = m} {at = from} x) (stops {n} {at} y) =

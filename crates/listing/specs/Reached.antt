@@ -7,14 +7,14 @@ use native.Mathlib.Omega.{arith}
 use lib.ListN.{length, take, drop, length-append}
 use denote.Ref.{RefT, now}
 use Rattle.code.specs.Tile.{tileLength}
-use Rattle.code.specs.declared.Kind.{Kind}
 use Rattle.reel.specs.Answer.{Said, tile, end, refused, NoTile}
 use Rattle.reel.specs.Calls.{NextTold, BytesTold, RestTold}
 use Rattle.reel.specs.Part.{part-told}
-use Rattle.reel.specs.Walk.{WalkByPlace, shifted}
+use Rattle.reel.specs.Walk.{WalkByPlace, further, shifted}
 use Rattle.reel.specs.Walk as walk
 use Rattle.reel.specs.Walks.{moves-on, rest-shorter, rest-on}
 use Rattle.reel.specs.Promise.{tile-stands}
+use Rattle.reel.specs.declared.Tile.{Tile}
 use Rattle.lettering.specs.Line.{endLine, stoppedLine}
 use Rattle.listing.specs.Listing.{Closes}
 
@@ -23,9 +23,9 @@ pub record Reached (reel left : List ℕ) (tiles : ℕ) : Type 0 where
   pub within : length left ≤ length reel
   pub is-left : left ≡ drop (length reel - length left) reel
   pub few : tiles ≤ length reel - length left
-  pub before : List Said
+  pub before : List Tile
   pub counted : length before ≡ tiles
-  pub walked : (more : List Said) (last : Said) → WalkByPlace reel (length reel - length left) more last → WalkByPlace reel 0 (before ++ more) last
+  pub walked : (more : List Tile) (last : Said) → WalkByPlace reel (length reel - length left) more last → WalkByPlace reel 0 (before ++ more) last
 
 -- ---- the walk
 
@@ -36,18 +36,18 @@ reached-first reel =
     record { within = omega arith; is-left = rw none refl; few = omega arith; before = []; counted = refl; walked = λ more last on. rw none at on }
 
 -- and goes on behind a tile
-module _ {reel : List ℕ} {left rest : RefT (List ℕ)} {k : Kind} {tiles number p l from : ℕ} (reached : Reached reel (now left) tiles)
-    (told : NextTold (now left) 0 (tile k number p l from)) (r : RestTold left 0 rest) where
+module _ {reel : List ℕ} {left rest : RefT (List ℕ)} {t : Tile} {tiles : ℕ} (reached : Reached reel (now left) tiles)
+    (told : NextTold (now left) 0 (tile t)) (r : RestTold left 0 rest) where
   -- the place that it has come to, the tile there, and the place behind that
   at : ℕ
   at = length reel - length (now left)
 
-  here : NextTold reel at (tile k number p l (at + from))
+  here : NextTold reel at (tile (further at t))
   unfolding at
   here = part-told reel at (omega arith) (rw (reached .is-left) at told)
 
   to : ℕ
-  to = at + from + tileLength p
+  to = at + t .at + tileLength (t .p)
 
   -- the rest begins there
   reached-to : length reel - length (now rest) ≡ to
@@ -63,12 +63,12 @@ module _ {reel : List ℕ} {left rest : RefT (List ℕ)} {k : Kind} {tiles numbe
     within = omega (arith, rest-shorter told r, reached .within);
     is-left = rw reached-to (rest-on reel at (reached .is-left) told r);
     few = omega (arith, rest-shorter told r, reached .within, reached .few, moves-on told .0);
-    before = reached .before ++ (tile k number p l (at + from) ∷ []);
-    counted = length-append (reached .before) (tile k number p l (at + from) ∷ []) ∙ ap (λ (n : ℕ). n + 1) (reached .counted);
+    before = reached .before ++ (further at t ∷ []);
+    counted = length-append (reached .before) (further at t ∷ []) ∙ ap (λ (n : ℕ). n + 1) (reached .counted);
     walked = λ more last on.
-        rw (append-assoc (reached .before) (tile k number p l (at + from) ∷ []) more)
-        (reached .walked (tile k number p l (at + from) ∷ more) last
-        (walk.WalkByPlace.goes-on here (record { said = tile k number p l (at + from); told = here; is = refl }) (rw reached-to at on)));
+        rw (append-assoc (reached .before) (further at t ∷ []) more)
+        (reached .walked (further at t ∷ more) last
+        (walk.WalkByPlace.goes-on here (record { said = tile (further at t); told = here; is = refl }) (rw reached-to at on)));
   }
 
 -- ---- where it ends
@@ -89,14 +89,14 @@ module _ {reel left : List ℕ} {tiles : ℕ} (reached : Reached reel left tiles
 
 -- ---- the tile
 
-module _ {reel bytes : RefT (List ℕ)} {k : Kind} {at number p l from : ℕ} (told : NextTold (now reel) at (tile k number p l from)) (handed : BytesTold reel at bytes) where
+module _ {reel bytes : RefT (List ℕ)} {at : ℕ} {t : Tile} (told : NextTold (now reel) at (tile t)) (handed : BytesTold reel at bytes) where
   -- the bytes that are handed back where a tile stands are that tile's ..
-  pub bytes-are : now bytes ≡ take (tileLength p) (drop from (now reel))
-  bytes-are = tile-stands reel bytes at k number p l from told handed .part .holds
+  pub bytes-are : now bytes ≡ take (tileLength (t .p)) (drop (t .at) (now reel))
+  bytes-are = tile-stands reel bytes at t told handed .part .holds
 
   -- .. and no tile has more than 65,536
   pub bytes-fit : length (now bytes) ≤ 65536
   bytes-fit =
-      let stands = tile-stands reel bytes at k number p l from told handed in
-      let side : p - 1 ≤ 256 = omega (arith, stands .size .high) in
+      let stands = tile-stands reel bytes at t told handed in
+      let side : t .p - 1 ≤ 256 = omega (arith, stands .size .high) in
       omega (arith, stands .long, mul-le-mul side side)

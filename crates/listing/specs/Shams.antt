@@ -4,10 +4,12 @@ use mathlib.Core.List.{List, _++_, append-cancel-left, append-cancel-right}
 use Prim.Native.Nat.{ℕ}
 use native.Mathlib.Omega.{arith}
 use lib.ListN.{getD, take}
-use Rattle.promise.specs.Answer.{clean, cell, column, refused}
+use Rattle.promise.specs.Answer.{done, clean, cell, column, refused}
 use Rattle.lettering.specs.Line.{ascii, space, lf, decimal, tileLine, endLine, stoppedLine, Holds}
 use Rattle.lettering.specs.Decimal.{decimal-once}
-use Rattle.listing.specs.Worked.{tile-7, tile-8, column-3, refused-8, stopped-7, end-0}
+use Rattle.listing.specs.Worked.{tile-7, tile-8, column-3, refused-8, filled-9, stopped-7, end-0, lone-second-line, good-line}
+use Rattle.listing.specs.Listing.{TileListed}
+use Rattle.reel.specs.Worked.{flag-case}
 
 -- a line that holds a text has its signs: the k-th of them
 sign : {bytes text : List ℕ} {count : ℕ} → Holds bytes count text → {right wrong : List ℕ} → text ≡ right → take count bytes ≡ wrong
@@ -36,6 +38,10 @@ module _ {bytes : List ℕ} {count : ℕ} where
   pub five-for-eight : Holds bytes count (tileLine 9 7 2 (refused 8)) → take count bytes ≡ ascii "9 7 2 refused 5\n" → ⊥
   five-for-eight holds said = let z = sign holds refused-8 said 14 in omega arith
 
+  -- a filling that is told as a clean tile
+  pub clean-for-filled : Holds bytes count (tileLine 9 5 2 done) → take count bytes ≡ ascii "9 5 2 clean\n" → ⊥
+  clean-for-filled holds said = let z = sign holds filled-9 said 6 in omega arith
+
   -- a line without its LF
   pub no-lf : Holds bytes count (tileLine 7 5 2 clean) → take count bytes ≡ ascii "7 5 2 clean" → ⊥
   no-lf holds said = let z = sign holds tile-7 said 11 in omega arith
@@ -61,3 +67,13 @@ module _ {bytes : List ℕ} {count : ℕ} where
   -- an offset that counts from the record's own first byte
   pub offset-from-record : Holds bytes count (stoppedLine 7 52) → take count bytes ≡ ascii "stopped 7 0\n" → ⊥
   offset-from-record holds said = let z = sign holds stopped-7 said 10 in omega arith
+
+-- ---- of what is listed
+
+-- a listing that passes over the flags, and repairs: tile 10 of the reel with flags, whose lone flag is the second
+pub flags-passed-over : TileListed flag-case 30 (ascii "10 5 2 row 0\n") → ⊥
+flags-passed-over listed = let z = ap (λ (x : List ℕ). getD x 7 0) (lone-second-line .1 (ascii "10 5 2 row 0\n") listed) in omega arith
+
+-- one that looks at the tile first, and tells a good one clean though it has a flag
+pub good-told-clean : TileListed flag-case 60 (ascii "11 5 2 clean\n") → ⊥
+good-told-clean listed = let z = ap (λ (x : List ℕ). getD x 7 0) (good-line .1 (ascii "11 5 2 clean\n") listed) in omega arith

@@ -1,27 +1,29 @@
 // The listing of a reel: a line for each tile, and a closing line. What each line says is settled byte by byte; what is left to the
 // system is to write it.
-use code::Kind;
 pub use lettering::line;
 use libc::STDOUT_FILENO;
-use promise::Repaired;
+use promise::Restored;
 use reel::Found;
 use reel::Tile;
 ghost use Prim.Native.Nat.{_≤_};
 ghost use lib.ListN.{length, take};
 ghost use Rattle.reel.specs.Answer.{foundSaid, NoTile};
 ghost use Rattle.reel.specs.Calls.{NextTold};
-ghost use Rattle.promise.specs.Answer.{repairSaid};
-ghost use Rattle.listing.specs.Listing.{RepairSays, TileListed, Closes};
+ghost use Rattle.promise.specs.Answer.{restoreSaid};
+ghost use Rattle.listing.specs.Listing.{RestoreSays, TileListed, Closes};
 ghost use Rattle.listing.specs.Reached.{Reached};
 
-// What repair says of a tile's bytes, which stay as they are: a copy of them is repaired.
-fn state(kind: Kind, p: usize, l: usize, bytes: &[u8], copy: &mut [u8]) -> Repaired
+// What comes of restoring a tile's bytes, which stay as they are: a copy of them is restored.
+fn state(tile: Tile, bytes: &[u8], copy: &mut [u8]) -> Restored
     requires { ⌜ length (now bytes) ≤ length (now copy) ⌝ }
-    ensures { λ r. ⌜ RepairSays kind p l (now (bytes .entry)) (repairSaid r) ⌝ }
+    ensures { λ r. ⌜ RestoreSays tile (now (bytes .entry)) (restoreSaid r) ⌝ }
 {
     let n = bytes.len();
     bytes::copy(bytes, copy);
-    mender::repair(kind, p, l, &mut copy[..n])
+    let kind = tile.kind;
+    let first = tile.first;
+    let second = tile.second;
+    restorer::restore(kind, tile.p, tile.l, &mut copy[..n], first, second)
 }
 
 // The line of the tile that stands at the start of what is left of a reel.
@@ -32,8 +34,7 @@ fn next_line(left: &[u8], tile: Tile, copy: &mut [u8]) -> line::Line
     ensures { λ r. ⌜ r .length ≤ length (r .bytes) ⌝ }
 {
     let bytes = reel::bytes(left, 0);
-    let kind = tile.kind;
-    let said = state(kind, tile.p, tile.l, bytes, copy);
+    let said = state(tile, bytes, copy);
     line::tile_line(tile.number, tile.p, tile.l, said)
 }
 

@@ -1,4 +1,4 @@
--- `listing::state` meets its contract: what is repaired is a copy of the bytes. Assumes nothing.
+-- `listing::state` meets its contract: what is restored is a copy of the bytes. Assumes nothing.
 use mathlib.Core.Path.{_≡_, sym, ap, _∙_}
 use mathlib.Core.List.{List, _++_}
 use Prim.Native.Nat.{ℕ}
@@ -15,26 +15,26 @@ copied words rest new e = ap (λ (l : List ℕ). take (length words) l) (e ∙ a
 copy-requires : tie.Need-copy-requires
 copy-requires c κs = search needs
 
-slice-relend-prefix-repair : tie.Need-slice-relend-prefix-repair
-slice-relend-prefix-repair c = search needs
+slice-relend-prefix-restore : tie.Need-slice-relend-prefix-restore
+slice-relend-prefix-restore c = search needs
 
-slice-aggregate-repair : tie.Need-slice-aggregate-repair
-slice-aggregate-repair c = sym (length-take-le _ _ (search needs))
+slice-aggregate-restore : tie.Need-slice-aggregate-restore
+slice-aggregate-restore c = sym (length-take-le _ _ (search needs))
 
-repair-requires : tie.Need-repair-requires
-repair-requires c κs = search needs
+restore-requires : tie.Need-restore-requires
+restore-requires c κs = search needs
 
 same-length : tie.Need-same-length
 same-length c = search needs
 
 returns : tie.Need-returns
 returns c =
-    let repaired = c .before .before in
-    let copy = repaired .before .before .before .before .copy in
+    let restored = c .before .before in
+    let copy = restored .before .before .before .before .copy in
     let args = c .before .before .before .before .before .before .before .before .before .before .args in
     record {
       new = _;
-      told = rw (copied (args .bytes .now) _ _ (copy .ensures .1)) at (repaired .repair .ensures);
+      told = rw (copied (args .bytes .now) _ _ (copy .ensures .1)) at (restored .restore .ensures);
     }
 
 pub state-spec : {M : Type 1} → statement M
@@ -42,8 +42,8 @@ state-spec =
     tie.close
     (tie.spec
     copy-requires
-    slice-relend-prefix-repair
-    slice-aggregate-repair
-    repair-requires
+    slice-relend-prefix-restore
+    slice-aggregate-restore
+    restore-requires
     same-length
     returns)

@@ -54,14 +54,23 @@ with-words-requires-4 c κs = search needs
 with-number-requires-4 : tie.Need-with-number-requires-4
 with-number-requires-4 c κs = search needs
 
-enum-known-state-4 : tie.Need-enum-known-state-4
-enum-known-state-4 c = search needs
+enum-told-2 : tie.Need-enum-told-2
+enum-told-2 c = search needs
 
 slice-aggregate-with-words-5 : tie.Need-slice-aggregate-with-words-5
 slice-aggregate-with-words-5 c = search needs
 
 with-words-requires-5 : tie.Need-with-words-requires-5
 with-words-requires-5 c κs = search needs
+
+enum-known-state-4 : tie.Need-enum-known-state-4
+enum-known-state-4 c = search needs
+
+slice-aggregate-with-words-6 : tie.Need-slice-aggregate-with-words-6
+slice-aggregate-with-words-6 c = search needs
+
+with-words-requires-6 : tie.Need-with-words-requires-6
+with-words-requires-6 c κs = search needs
 
 number-requires : tie.Need-number-requires
 number-requires c κs = search needs
@@ -100,9 +109,15 @@ returns-4 c =
 returns-5 : tie.Need-returns-5
 unfolding stateText
 returns-5 c =
+    let line = c .before .before .before .before .args .line in
+    rw (c .before .before .enum-told2 .given .1) (word-laid (take (line .length) (line .bytes)) (ascii "filled") (c .with-words5 .ensures .0))
+
+returns-6 : tie.Need-returns-6
+unfolding stateText
+returns-6 c =
     let found = c .before .before .before .before .before in
     let line = found .before .before .args .line in
-    rw (found .state4 .given .1, ← c .before .number .ensures) (number-laid (take (line .length) (line .bytes)) (ascii "refused") _ (c .before .before .with-words5 .ensures .0) (c .with-number5 .ensures .0))
+    rw (found .state4 .given .1, ← c .before .number .ensures) (number-laid (take (line .length) (line .bytes)) (ascii "refused") _ (c .before .before .with-words6 .ensures .0) (c .with-number5 .ensures .0))
 
 pub with-state-spec : {M : Type 1} → statement M
 with-state-spec =
@@ -124,13 +139,17 @@ with-state-spec =
     slice-aggregate-with-words-4
     with-words-requires-4
     with-number-requires-4
-    enum-known-state-4
+    enum-told-2
     slice-aggregate-with-words-5
     with-words-requires-5
+    enum-known-state-4
+    slice-aggregate-with-words-6
+    with-words-requires-6
     number-requires
     with-number-requires-5
     returns
     returns-2
     returns-3
     returns-4
-    returns-5)
+    returns-5
+    returns-6)
