@@ -5,10 +5,10 @@ use mathlib.Core.List.{List}
 use Prim.Native.Nat.{ℕ, _/_, _%_}
 use native.Mathlib.Omega.{arith}
 use Rattle.word.specs.Word.{Answer, answer, word, sizeAnswer, tileAnswer}
-use Rattle.counterfrost.specs.Numbers.{sheetAnswer, reelAnswer}
-use Rattle.counterfrost.specs.Calls.{Worded, HouseWorded, TakesWorded, WriteWorded, ReadWorded, RepairWorded, InspectWorded, RecoverWorded, FillWorded, JudgeWorded, CorrectWorded, NextWorded}
+use Rattle.counterfrost.specs.Numbers.{sheetAnswer, layAnswer, reelAnswer}
+use Rattle.counterfrost.specs.Calls.{Worded, HouseWorded, TakesWorded, WriteWorded, ReadWorded, RepairWorded, InspectWorded, RecoverWorded, FillWorded, JudgeWorded, CorrectWorded, NextWorded, LayWorded}
 use Rattle.word.specs.Fits.{Fits}
-use Rattle.counterfrost.specs.Fits.{house-fits, takes-fits, write-fits, read-fits, repair-fits, inspect-fits, recover-fits, fill-fits, judge-fits, correct-fits, next-fits}
+use Rattle.counterfrost.specs.Fits.{house-fits, takes-fits, write-fits, read-fits, repair-fits, inspect-fits, recover-fits, fill-fits, judge-fits, correct-fits, next-fits, lay-fits}
 
 -- `cf_kind`, `cf_first` and `cf_second`: the word shifted by 32 bits, its next 16 bits, its last 16
 abbrev pub kindOf : ℕ → ℕ
@@ -63,5 +63,8 @@ judge-tells first second t = tells (λ said h. judge-fits h) t
 pub correct-tells : (kind : ℕ) {p l w n : ℕ} {x records y : List ℕ} (t : CorrectWorded kind p l x records w y n) → Tells w (sheetAnswer (t .said))
 correct-tells kind t = tells (λ said h. correct-fits (h .0)) t
 
-pub next-tells : {at w kind number p l from : ℕ} {reel : List ℕ} (t : NextWorded reel at w kind number p l from) → Tells w (reelAnswer (t .said))
+pub next-tells : {at w kind number p l first second from : ℕ} {reel : List ℕ} (t : NextWorded reel at w kind number p l first second from) → Tells w (reelAnswer (t .said))
 next-tells t = tells (λ said h. next-fits (h .0)) t
+
+pub lay-tells : (which number first second : ℕ) {p l w n : ℕ} {tile room x : List ℕ} (t : LayWorded which p l number first second tile room w x n) → Tells w (layAnswer (t .said))
+lay-tells which number first second t = tells (λ said h. lay-fits (h .0)) t

@@ -7,8 +7,10 @@ use Rattle.size.specs.Answer.{HouseTold, Judged}
 use Rattle.promise.specs.Calls.{WriteTold, ReadTold, RepairTold, InspectTold, RecoverTold, FillTold, JudgeTold}
 use Rattle.sheet.specs.Calls.{CorrectTold}
 use Rattle.reel.specs.Calls.{NextTold}
-use Rattle.word.specs.Word.{Answer, word, sizeAnswer, tileAnswer, lineOf, tileKind}
-use Rattle.counterfrost.specs.Numbers.{sheetAnswer, countOrOffset, reelAnswer, tileKindNumber, tileNumber, tileSize, tileSlope, offset}
+use Rattle.printer.specs.Lay.{LayTold}
+use Rattle.flag.specs.Flag.{lineOf, flagOf}
+use Rattle.word.specs.Word.{Answer, word, sizeAnswer, tileAnswer, tileKind, markOf}
+use Rattle.counterfrost.specs.Numbers.{sheetAnswer, countOrOffset, layAnswer, recordLength, reelAnswer, sevenOf}
 
 -- SPEC 11.1: the word w is the answer to something that is rightly said
 pub record Worded {Said : Type 0} (answerOf : Said → Answer) (Right : Said → Type 0) (w : ℕ) : Type 0 where
@@ -24,7 +26,7 @@ HouseWorded p = Worded sizeAnswer (HouseTold p)
 abbrev pub TakesWorded : ℕ → ℕ → ℕ → ℕ → Type 0
 TakesWorded kind p l = Worded sizeAnswer (Judged (tileKind kind) p l)
 
--- SPEC 11.1, 5.1 to 5.4 and 5.7: a tile call that leaves the bytes x. The kind goes in as a number, by 11.5, and so do the lines to fill, by 11.3
+-- SPEC 11.1, 5.1 to 5.4 and 5.7: a tile call that leaves the bytes x. The kind goes in as a number, by 11.5, and so do the lines to fill, by 11.3 and 3.5
 abbrev pub WriteWorded : ℕ → ℕ → ℕ → List ℕ → List ℕ → ℕ → List ℕ → Type 0
 WriteWorded kind p l text tile w x = Worded tileAnswer (λ s. WriteTold (tileKind kind) p l text tile s x) w
 
@@ -52,7 +54,13 @@ JudgeWorded p l scan restored first second = Worded tileAnswer (JudgeTold p l sc
 abbrev pub CorrectWorded : ℕ → ℕ → ℕ → List ℕ → List ℕ → ℕ → List ℕ → ℕ → Type 0
 CorrectWorded kind p l tile sheet w x n = Worded sheetAnswer (λ s. CorrectTold (tileKind kind) p l tile sheet s x × (n ≡ countOrOffset s)) w
 
--- SPEC 11.1, 11.2 and 7.2: what stands at a place, in five numbers
-abbrev pub NextWorded : List ℕ → ℕ → ℕ → ℕ → ℕ → ℕ → ℕ → ℕ → Type 0
-NextWorded reel at w kind number p l from =
-    Worded reelAnswer (λ s. NextTold reel at s × (kind ≡ tileKindNumber s) × (number ≡ tileNumber s) × (p ≡ tileSize s) × (l ≡ tileSlope s) × (from ≡ offset s)) w
+-- SPEC 11.1, 11.2 and 7.2: what stands at a place, in seven numbers
+abbrev pub NextWorded : List ℕ → ℕ → ℕ → ℕ → ℕ → ℕ → ℕ → ℕ → ℕ → ℕ → Type 0
+NextWorded reel at w kind number p l first second from =
+    Worded reelAnswer (λ s. NextTold reel at s × (record { kind = kind; number = number; p = p; l = l; first = first; second = second; offset = from } ≡ sevenOf s)) w
+
+-- SPEC 11.1, 11.2, 11.3, 11.6 and 7.7: the laying of a record that leaves the room x, and the number n
+abbrev pub LayWorded : ℕ → ℕ → ℕ → ℕ → ℕ → ℕ → List ℕ → List ℕ → ℕ → List ℕ → ℕ → Type 0
+LayWorded which p l number first second tile room w x n =
+    Worded layAnswer (λ s. LayTold (record { mark = markOf which; p = p; l = l; number = number; first = flagOf first; second = flagOf second }) tile room s x
+    × (n ≡ recordLength s)) w

@@ -11,11 +11,13 @@ use Rattle.promise.specs.Admit.{admitted-well}
 use Rattle.promise.specs.Name.{named-in}
 use Rattle.sheet.specs.Answer as sheet
 use Rattle.sheet.specs.Calls as sheet-calls
+use Rattle.header.specs.declared.Header.{Header}
+use Rattle.printer.specs.Lay as lay
 use Rattle.reel.specs.Answer as reel
 use Rattle.reel.specs.Calls as reel-calls
 use Rattle.word.specs.Word.{refusal, sizeAnswer, tileAnswer}
 use Rattle.word.specs.Fits.{Fits}
-use Rattle.counterfrost.specs.Numbers.{sheetAnswer, reelAnswer}
+use Rattle.counterfrost.specs.Numbers.{sheetAnswer, layAnswer, reelAnswer}
 
 -- a house slope is below its size
 pub house-fits : {p : ℕ} {said : size.Said} → size.HouseTold p said → Fits (sizeAnswer said)
@@ -91,10 +93,21 @@ correct-fits (sheet-calls.refuses h) = admitted-fits h
 correct-fits (sheet-calls.faulty h j) = sheet-fits j
 correct-fits (sheet-calls.corrects h j c) = (omega arith, omega arith)
 
+header-fits : {film : List ℕ} {at : ℕ} {h : Header} {said : reel.Said} → reel-calls.HeaderTold film at h said → Fits (reelAnswer said)
+header-fits (reel-calls.refuses j) = takes-fits j
+header-fits (reel-calls.no-line j f) = (omega arith, omega arith)
+header-fits (reel-calls.tile-cut j c f) = (omega arith, omega arith)
+header-fits (reel-calls.stands j c w) = (omega arith, omega arith)
+
 pub next-fits : {film : List ℕ} {at : ℕ} {said : reel.Said} → reel-calls.NextTold film at said → Fits (reelAnswer said)
 next-fits (reel-calls.ends e) = (omega arith, omega arith)
-next-fits (reel-calls.header-cut e h) = (omega arith, omega arith)
-next-fits (reel-calls.no-mark h m) = (omega arith, omega arith)
-next-fits (reel-calls.refuses h m j) = takes-fits j
-next-fits (reel-calls.body-cut h m j w) = (omega arith, omega arith)
-next-fits (reel-calls.stands w m j) = (omega arith, omega arith)
+next-fits (reel-calls.start-cut e f) = (omega arith, omega arith)
+next-fits (reel-calls.no-mark s m) = (omega arith, omega arith)
+next-fits (reel-calls.header-cut k s m f) = (omega arith, omega arith)
+next-fits (reel-calls.headed there told) = header-fits told
+
+pub lay-fits : {h : Header} {tile room x : List ℕ} {said : lay.Said} → lay.LayTold h tile room said x → Fits (layAnswer said)
+lay-fits (lay.refuses t) = admitted-fits t
+lay-fits (lay.no-line t f) = (omega arith, omega arith)
+lay-fits (lay.no-room t c f) = (omega arith, omega arith)
+lay-fits (lay.lays t c r l) = (omega arith, omega arith)

@@ -6,9 +6,12 @@ use Rattle.size.specs.Once.{house-told-once, judged-told-once}
 use Rattle.promise.specs.Once.{write-told-once, read-told-once, repair-told-once, inspect-told-once, recover-told-once, fill-told-once, judge-told-once}
 use Rattle.sheet.specs.Once.{correct-told-once}
 use Rattle.reel.specs.Once.{next-told-once}
-use Rattle.word.specs.Word.{Answer, word, lineOf, tileKind}
-use Rattle.counterfrost.specs.Numbers.{countOrOffset, tileKindNumber, tileNumber, tileSize, tileSlope, offset}
-use Rattle.counterfrost.specs.Calls.{Worded, HouseWorded, TakesWorded, WriteWorded, ReadWorded, RepairWorded, InspectWorded, RecoverWorded, FillWorded, JudgeWorded, CorrectWorded, NextWorded}
+use Rattle.header.specs.declared.Header.{Header}
+use Rattle.printer.specs.Once.{lay-told-once}
+use Rattle.flag.specs.Flag.{lineOf, flagOf}
+use Rattle.word.specs.Word.{Answer, word, tileKind, markOf}
+use Rattle.counterfrost.specs.Numbers.{countOrOffset, recordLength, Seven, sevenOf}
+use Rattle.counterfrost.specs.Calls.{Worded, HouseWorded, TakesWorded, WriteWorded, ReadWorded, RepairWorded, InspectWorded, RecoverWorded, FillWorded, JudgeWorded, CorrectWorded, NextWorded, LayWorded}
 
 -- where one thing is said, it has one word
 one-word : {Said : Type 0} {answerOf : Said → Answer} {Right Right′ : Said → Type 0} {v w : ℕ} (t : Worded answerOf Right v)
@@ -61,24 +64,16 @@ correct-word-once kind p l tile sheet v w x y m n t u =
     let e = correct-told-once (tileKind kind) p l tile sheet (t .said) (u .said) x y (t .right .0) (u .right .0) in
     (one-word t u (e .0), e .1, t .right .1 ∙ ap countOrOffset (e .0) ∙ sym (u .right .1))
 
--- and a place has five numbers
-pub record SameNumbers (kind kind′ number number′ p p′ l l′ from from′ : ℕ) : Type 0 where
-  pub kind-same : kind ≡ kind′
-  pub number-same : number ≡ number′
-  pub size-same : p ≡ p′
-  pub slope-same : l ≡ l′
-  pub offset-same : from ≡ from′
+-- laying a record leaves one too
+pub lay-word-once : (which p l number first second : ℕ) (tile room : List ℕ) (v w : ℕ) (x y : List ℕ) (m n : ℕ) → LayWorded which p l number first second tile room v x m
+    → LayWorded which p l number first second tile room w y n → (v ≡ w) × (x ≡ y) × (m ≡ n)
+lay-word-once which p l number first second tile room v w x y m n t u =
+    let h : Header = record { mark = markOf which; p = p; l = l; number = number; first = flagOf first; second = flagOf second } in
+    let e = lay-told-once h tile room (t .said) (u .said) x y (t .right .0) (u .right .0) in
+    (one-word t u (e .0), e .1, t .right .1 ∙ ap recordLength (e .0) ∙ sym (u .right .1))
 
-pub next-word-once : (reel : List ℕ) (at v w kind kind′ number number′ p p′ l l′ from from′ : ℕ) → NextWorded reel at v kind number p l from
-    → NextWorded reel at w kind′ number′ p′ l′ from′ → (v ≡ w) × SameNumbers kind kind′ number number′ p p′ l l′ from from′
-next-word-once reel at v w kind kind′ number number′ p p′ l l′ from from′ t u =
-    let e = next-told-once reel at (t .said) (u .said) (t .right .0) (u .right .0) in (
-      one-word t u e,
-      record {
-        kind-same = t .right .1 ∙ ap tileKindNumber e ∙ sym (u .right .1);
-        number-same = t .right .2 ∙ ap tileNumber e ∙ sym (u .right .2);
-        size-same = t .right .3 ∙ ap tileSize e ∙ sym (u .right .3);
-        slope-same = t .right .4 ∙ ap tileSlope e ∙ sym (u .right .4);
-        offset-same = t .right .5 ∙ ap offset e ∙ sym (u .right .5);
-      },
-    )
+-- and a place has seven numbers
+pub next-word-once : (reel : List ℕ) (at v w : ℕ) (s t : Seven) → NextWorded reel at v (s .kind) (s .number) (s .p) (s .l) (s .first) (s .second) (s .offset)
+    → NextWorded reel at w (t .kind) (t .number) (t .p) (t .l) (t .first) (t .second) (t .offset) → (v ≡ w) × (s ≡ t)
+next-word-once reel at v w s t x y =
+    let e = next-told-once reel at (x .said) (y .said) (x .right .0) (y .right .0) in (one-word x y e, x .right .1 ∙ ap sevenOf e ∙ sym (y .right .1))

@@ -1,10 +1,10 @@
 -- Wrong programs, each broken by a theorem: no such program meets its contract. Assumes nothing.
-use mathlib.Core.Path.{_≡_, refl}
+use mathlib.Core.Path.{_≡_, refl, ap}
 use mathlib.Core.Logic.{inl}
 use mathlib.Core.List.{List, [], _∷_}
 use Prim.Native.Nat.{ℕ}
 use native.Mathlib.Omega.{arith}
-use lib.ListN.{length}
+use lib.ListN.{length, getD, replicate}
 use Rattle.code.specs.Tile.{textLength, textOf, Good}
 use Rattle.code.specs.Kind.{Takes}
 use Rattle.code.specs.Count.{once-only}
@@ -17,8 +17,8 @@ use Rattle.size.specs.Shams.{size-5, size-7, at-5-2, no-at-7-2}
 use Rattle.promise.specs.Answer as tile
 use Rattle.promise.specs.Admit.{admits}
 use Rattle.promise.specs.Calls as tile-calls
-use Rattle.promise.specs.Calls.{WriteTold, Explains, RepairTold}
-use Rattle.promise.specs.Explain.{explains-fills, explains-on}
+use Rattle.promise.specs.Calls.{WriteTold}
+use Rattle.promise.specs.Explain.{row-fills}
 use Rattle.promise.specs.Worked as tile-case
 use Rattle.promise.specs.WorkedJudged.{judgement}
 use Rattle.promise.specs.WorkedRecovered.{nines, zeros-text, recovery-claimed}
@@ -29,19 +29,22 @@ use Rattle.sheet.specs.Worked as sheet-case
 use Rattle.sheet.specs.Worked.{sheet-11, tile-11}
 use Rattle.reel.specs.Answer as reel
 use Rattle.reel.specs.Worked as reel-case
-use Rattle.reel.specs.Worked.{whole-case, old-case}
+use Rattle.reel.specs.Worked.{flaggedTile, plainTile, whole-case, old-case, flag-case, row-0, column-0}
+use Rattle.flag.specs.Flag.{lineOf, flagOf}
+use Rattle.header.specs.Header.{Carries}
+use Rattle.header.specs.declared.Mark.the-variants as mark
+use Rattle.header.specs.declared.Header.{Header}
+use Rattle.printer.specs.Lay as lay
+use Rattle.printer.specs.Laying.{taken-fit, laidRoom, made-laid}
 use Rattle.word.specs.Version.{version}
-use Rattle.word.specs.Word.{answer, word, done, refusal, lineOf, tileKind}
-use Rattle.counterfrost.specs.Calls.{HouseWorded, TakesWorded, WriteWorded, ReadWorded, RepairWorded, InspectWorded, RecoverWorded, FillWorded, JudgeWorded, CorrectWorded, NextWorded}
-use Rattle.counterfrost.specs.Once.{house-word-once, takes-word-once, write-word-once, read-word-once, repair-word-once, inspect-word-once, recover-word-once, fill-word-once, judge-word-once, correct-word-once, next-word-once}
+use Rattle.word.specs.Word.{answer, word, done, refusal, tileKind, markOf}
+use Rattle.counterfrost.specs.Calls.{HouseWorded, TakesWorded, WriteWorded, ReadWorded, RepairWorded, InspectWorded, RecoverWorded, FillWorded, JudgeWorded, CorrectWorded, NextWorded, LayWorded}
+use Rattle.counterfrost.specs.Once.{house-word-once, takes-word-once, write-word-once, read-word-once, repair-word-once, inspect-word-once, recover-word-once, fill-word-once, judge-word-once, correct-word-once, next-word-once, lay-word-once}
+use Rattle.counterfrost.specs.Numbers.{Seven}
 
--- a good tile was written, and a tile that is repaired by a row is explained by it
+-- a good tile was written
 written-good : {k : Kind} {p l : ℕ} {text x y : List ℕ} → WriteTold k p l text x tile.done y → Good p l y
 written-good (WriteTold.writes h w) = w .good
-
-by-row : {k : Kind} {p l r : ℕ} {x y : List ℕ} → RepairTold k p l x (tile.row r) y → Explains p l (Row r) x y
-by-row {k} {p} {l} {r} {x} {y} (RepairTold.is-hurt h bad (tile-calls.Looked.one o (tile-calls.by-row m))) =
-    explains-on p l (o .is .line) (Row r) x y (o .is .explains) (m .within)
 
 -- ---- the house slope
 
@@ -83,7 +86,7 @@ takes-slope-first kind t = omega (arith, takes-word-once kind 4 0 (word (refusal
 -- ---- the version
 
 -- a library that says the version before this one, and one that says none
-pub version-stale : _≡_ {A = ℕ} 600 version → ⊥
+pub version-stale : _≡_ {A = ℕ} 601 version → ⊥
 version-stale e = omega (arith, e)
 
 pub version-missing : _≡_ {A = ℕ} 0 version → ⊥
@@ -210,7 +213,7 @@ unfolding lineOf
 filled-6 kind = record {
   said = tile.done;
   right = tile-calls.has-lines (admits size-5 (tile-case.taken-5-2 (tileKind kind)) refl) (omega arith) (omega arith) (tile-calls.Looked.one
-      (once-only (fills-once 5 2 tile-6 tile-case.slope-5-2 (Row 0) (Row 0) (inl tt)) (explains-fills 5 2 (Row 0) tile-6 zeros .0 (by-row (tile-case.claimed 6 (tileKind kind) .0)))) refl);
+      (once-only (fills-once 5 2 tile-6 tile-case.slope-5-2 (Row 0) (Row 0) (inl tt)) (row-fills (tile-case.claimed 6 (tileKind kind) .0))) refl);
   is = refl;
 }
 
@@ -279,32 +282,98 @@ size-for-offset kind w x t = omega (arith, correct-word-once kind 5 2 zeros (0 �
 
 -- ---- next
 
-first-tile : NextWorded whole-case 0 (word done) 0 7 5 2 10
-first-tile = record { said = reel.tile New 7 5 2 10; right = (reel-case.first, refl, refl, refl, refl, refl); is = refl }
+-- the numbers of a place
+abbrev seven : ℕ → ℕ → ℕ → ℕ → ℕ → ℕ → ℕ → Seven
+seven kind number p l first second from = record { kind = kind; number = number; p = p; l = l; first = first; second = second; offset = from }
 
-at-end : NextWorded whole-case 53 (word (answer 7 0 0)) 0 0 0 0 0
-at-end = record { said = reel.end; right = (reel-case.behind, refl, refl, refl, refl, refl); is = refl }
+first-tile : NextWorded whole-case 0 (word done) 0 7 5 2 0xFFFF 0xFFFF 10
+first-tile = record { said = reel.tile (plainTile New 7 5 2 10); right = (reel-case.first, refl); is = refl }
+
+at-end : NextWorded whole-case 53 (word (answer 7 0 0)) 0 0 0 0 0xFFFF 0xFFFF 0
+at-end = record { said = reel.end; right = (reel-case.behind, refl); is = refl }
 
 -- a reader that leaves a number where it has no value
-pub number-left : (w : ℕ) → NextWorded whole-case 53 w 0 1 0 0 0 → ⊥
-number-left w t = omega (arith, next-word-once whole-case 53 (word (answer 7 0 0)) w 0 0 0 1 0 0 0 0 0 0 at-end t .1 .number-same)
+pub number-left : (w : ℕ) → NextWorded whole-case 53 w 0 1 0 0 0xFFFF 0xFFFF 0 → ⊥
+number-left w t =
+    omega (arith, ap (λ (s : Seven). s .number) (next-word-once whole-case 53 (word (answer 7 0 0)) w (seven 0 0 0 0 0xFFFF 0xFFFF 0) (seven 0 1 0 0 0xFFFF 0xFFFF 0) at-end t .1))
 
 -- one that gives the tile's number for the offset of its bytes
-pub number-for-offset : (w : ℕ) → NextWorded whole-case 0 w 0 7 5 2 7 → ⊥
-number-for-offset w t = omega (arith, next-word-once whole-case 0 (word done) w 0 0 7 7 5 5 2 2 10 7 first-tile t .1 .offset-same)
+pub number-for-offset : (w : ℕ) → NextWorded whole-case 0 w 0 7 5 2 0xFFFF 0xFFFF 7 → ⊥
+number-for-offset w t =
+    omega (arith, ap (λ (s : Seven). s .offset) (next-word-once whole-case 0 (word done) w (seven 0 7 5 2 0xFFFF 0xFFFF 10) (seven 0 7 5 2 0xFFFF 0xFFFF 7) first-tile t .1))
+
+-- one that tells the flags of a record that has none as row 0
+pub none-told-row : (w : ℕ) → NextWorded whole-case 0 w 0 7 5 2 0 0 10 → ⊥
+none-told-row w t =
+    omega (arith, ap (λ (s : Seven). s .first) (next-word-once whole-case 0 (word done) w (seven 0 7 5 2 0xFFFF 0xFFFF 10) (seven 0 7 5 2 0 0 10) first-tile t .1))
 
 -- one that tells the end as a tile
-pub end-told-tile : (kind number p l from : ℕ) → NextWorded whole-case 53 (word done) kind number p l from → ⊥
-end-told-tile kind number p l from t =
-    omega (arith, next-word-once whole-case 53 (word (answer 7 0 0)) (word done) 0 kind 0 number 0 p 0 l 0 from at-end t .0)
+pub end-told-tile : (kind number p l first second from : ℕ) → NextWorded whole-case 53 (word done) kind number p l first second from → ⊥
+end-told-tile kind number p l first second from t =
+    omega (arith, next-word-once whole-case 53 (word (answer 7 0 0)) (word done) (seven 0 0 0 0 0xFFFF 0xFFFF 0) (seven kind number p l first second from) at-end t .0)
 
 -- an old record, which stands first on a reel
-first-old : NextWorded old-case 0 (word done) 1 9 7 2 10
-first-old = record { said = reel.tile Old 9 7 2 10; right = (reel-case.old-first, refl, refl, refl, refl, refl); is = refl }
+first-old : NextWorded old-case 0 (word done) 1 9 7 2 0xFFFF 0xFFFF 10
+first-old = record { said = reel.tile (plainTile Old 9 7 2 10); right = (reel-case.old-first, refl); is = refl }
 
 -- a reader that tells it as a new one
-pub old-told-new : (w : ℕ) → NextWorded old-case 0 w 0 9 7 2 10 → ⊥
-old-told-new w t = omega (arith, next-word-once old-case 0 (word done) w 1 0 9 9 7 7 2 2 10 10 first-old t .1 .kind-same)
+pub old-told-new : (w : ℕ) → NextWorded old-case 0 w 0 9 7 2 0xFFFF 0xFFFF 10 → ⊥
+old-told-new w t =
+    omega (arith, ap (λ (s : Seven). s .kind) (next-word-once old-case 0 (word done) w (seven 1 9 7 2 0xFFFF 0xFFFF 10) (seven 0 9 7 2 0xFFFF 0xFFFF 10) first-old t .1))
+
+-- a flagged record with row 0 and column 0
+first-flagged : NextWorded flag-case 0 (word done) 0 9 5 2 0 0x8000 14
+first-flagged = record { said = reel.tile (flaggedTile 9 5 2 row-0 column-0 14); right = (reel-case.crossed, refl); is = refl }
+
+-- a reader that tells its column without the 8000 hex
+pub flag-told-row : (w : ℕ) → NextWorded flag-case 0 w 0 9 5 2 0 0 14 → ⊥
+flag-told-row w t =
+    omega (arith, ap (λ (s : Seven). s .second) (next-word-once flag-case 0 (word done) w (seven 0 9 5 2 0 0x8000 14) (seven 0 9 5 2 0 0 14) first-flagged t .1))
+
+-- ---- lay
+
+-- tile 9 is laid with its two flags, into a room of just the 30 bytes that the record has
+abbrev header-9 : Header
+header-9 = record { mark = mark.Flagged; p = 5; l = 2; number = 9; first = row-0; second = column-0 }
+
+abbrev room-30 : List ℕ
+room-30 = replicate 30 0
+
+laid-9 : LayWorded 2 5 2 9 0 0x8000 tile-9 room-30 (word done) (laidRoom header-9 tile-9 room-30) 30
+unfolding markOf flagOf lineOf
+laid-9 =
+    let taken : lay.Taken header-9 tile-9 size.well = admits size-5 at-5-2 refl in
+    let carries : Carries header-9 = (omega arith, omega arith) in
+    record {
+      said = lay.laid 30;
+      right = (lay.lays taken carries (omega arith) (made-laid header-9 tile-9 room-30 (taken-fit taken carries (omega arith)) (omega arith)), refl);
+      is = refl;
+    }
+
+-- a call that leaves the number as it was
+pub length-missing : (w : ℕ) (x : List ℕ) → LayWorded 2 5 2 9 0 0x8000 tile-9 room-30 w x 0 → ⊥
+length-missing w x t =
+    omega (arith, lay-word-once 2 5 2 9 0 0x8000 tile-9 room-30 (word done) w (laidRoom header-9 tile-9 room-30) x 30 0 laid-9 t .2)
+
+-- one that lays the second flag first
+pub flags-exchanged : (w n : ℕ) (x : List ℕ) → getD x 10 0 ≡ 0x80 → LayWorded 2 5 2 9 0 0x8000 tile-9 room-30 w x n → ⊥
+flags-exchanged w n x e t =
+    omega (arith, e, ap (λ (y : List ℕ). getD y 10 0) (lay-word-once 2 5 2 9 0 0x8000 tile-9 room-30 (word done) w (laidRoom header-9 tile-9 room-30) x 30 n laid-9 t .1))
+
+-- one that takes 2 for a record without flags, and so refuses them
+pub two-has-no-flags : (n : ℕ) (x : List ℕ) → LayWorded 2 5 2 9 0 0x8000 tile-9 room-30 (word (refusal 4)) x n → ⊥
+two-has-no-flags n x t =
+    omega (arith, lay-word-once 2 5 2 9 0 0x8000 tile-9 room-30 (word done) (word (refusal 4)) (laidRoom header-9 tile-9 room-30) x 30 n laid-9 t .0)
+
+-- the same flags in a record of a new tile that has no place for them
+refused-9 : LayWorded 0 5 2 9 0 0x8000 tile-9 room-30 (word (refusal 4)) room-30 0
+unfolding markOf flagOf lineOf
+refused-9 = record { said = lay.refused 4; right = (lay.no-line (admits size-5 at-5-2 refl) (λ c. c .0), refl); is = refl }
+
+-- one that drops them
+pub flags-dropped : (n : ℕ) (x : List ℕ) → LayWorded 0 5 2 9 0 0x8000 tile-9 room-30 (word done) x n → ⊥
+flags-dropped n x t =
+    omega (arith, lay-word-once 0 5 2 9 0 0x8000 tile-9 room-30 (word (refusal 4)) (word done) room-30 x 0 n refused-9 t .0)
 
 -- ---- the kind
 

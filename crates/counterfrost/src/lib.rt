@@ -1,5 +1,7 @@
 // The face for C and Rust, as include/counterfrost.h declares it. Each call wraps a proved one: it answers by a word, and promises what that
 // one does. None asks anything of its input.
+use header::Header;
+use printer::Laid;
 use promise::Repaired;
 use reel::Found;
 use sheet::Corrected;
@@ -10,7 +12,7 @@ ghost use Rattle.promise.specs.Answer.{repairSaid};
 ghost use Rattle.word.specs.Word as spec;
 ghost use Rattle.word.specs.Fits.{Fits};
 ghost use Rattle.word.specs.Version.{version};
-ghost use Rattle.counterfrost.specs.Calls.{HouseWorded, TakesWorded, WriteWorded, ReadWorded, RepairWorded, InspectWorded, RecoverWorded, FillWorded, JudgeWorded, CorrectWorded, NextWorded};
+ghost use Rattle.counterfrost.specs.Calls.{HouseWorded, TakesWorded, WriteWorded, ReadWorded, RepairWorded, InspectWorded, RecoverWorded, FillWorded, JudgeWorded, CorrectWorded, NextWorded, LayWorded};
 
 // The house slope of the size p.
 #[no_mangle]
@@ -80,8 +82,8 @@ pub extern "C" fn cf_fill(
 ) -> u64
     ensures { λ r. ⌜ FillWorded kind p l (now (tile .entry)) first second r (now (tile .exit)) ⌝ }
 {
-    let first = word::line(first);
-    let second = word::line(second);
+    let first = flag::line(first);
+    let second = flag::line(second);
     word::of_outcome(tile::fill(word::kind(kind), p, l, tile, first, second))
 }
 
@@ -97,8 +99,8 @@ pub extern "C" fn cf_judge(
 ) -> u64
     ensures { λ r. ⌜ JudgeWorded p l (now (scan .entry)) (now (restored .entry)) first second r ⌝ }
 {
-    let first = word::line(first);
-    let second = word::line(second);
+    let first = flag::line(first);
+    let second = flag::line(second);
     word::of_outcome(tile::judge(p, l, scan, restored, first, second))
 }
 
@@ -126,7 +128,7 @@ pub extern "C" fn cf_correct(
     }
 }
 
-// What stands at a place of a reel. Every number is set, to 0 where there is no value.
+// What stands at a place of a reel. Every number is set: where there is no value, the flags to none and the others to 0.
 #[no_mangle]
 pub extern "C" fn cf_next(
     reel: &[u8],
@@ -135,28 +137,71 @@ pub extern "C" fn cf_next(
     number: &mut u64,
     p: &mut u64,
     l: &mut u64,
+    first: &mut u64,
+    second: &mut u64,
     offset: &mut u64,
 ) -> u64
-    ensures { λ r. ⌜ NextWorded (now (reel .entry)) at r (now (kind .exit)) (now (number .exit)) (now (p .exit)) (now (l .exit)) (now (offset .exit)) ⌝ }
+    ensures { λ r. ⌜ NextWorded (now (reel .entry)) at r (now (kind .exit)) (now (number .exit)) (now (p .exit)) (now (l .exit)) (now (first .exit)) (now (second .exit)) (now (offset .exit)) ⌝ }
 {
     *kind = 0;
     *number = 0;
     *p = 0;
     *l = 0;
+    *first = 0xFFFF;
+    *second = 0xFFFF;
     *offset = 0;
     match reel::next(reel, at) {
         Found::Tile(tile) => {
             let of = tile.kind;
+            let one = tile.first;
+            let other = tile.second;
             *kind = word::kind_number(of);
             *number = tile.number as u64;
             *p = tile.p as u64;
             *l = tile.l as u64;
+            *first = flag::number(one) as u64;
+            *second = flag::number(other) as u64;
             *offset = tile.at as u64;
             word::done()
         }
         Found::End => word::end(),
         Found::Refused(refusal, from) => {
             *offset = from as u64;
+            word::refused(refusal)
+        }
+    }
+}
+
+// Lays the record of a tile, with the flags as numbers.
+#[no_mangle]
+pub extern "C" fn cf_lay(
+    which: usize,
+    p: usize,
+    l: usize,
+    number: u32,
+    first: usize,
+    second: usize,
+    tile: &[u8],
+    room: &mut [u8],
+    length: &mut u64,
+) -> u64
+    ensures { λ r. ⌜ LayWorded which p l number first second (now (tile .entry)) (now (room .entry)) r (now (room .exit)) (now («length» .exit)) ⌝ }
+{
+    let header = Header {
+        mark: word::mark(which),
+        p,
+        l,
+        number,
+        first: flag::read(first),
+        second: flag::read(second),
+    };
+    match printer::lay(header, tile, room) {
+        Laid::Record(n) => {
+            *length = n as u64;
+            word::done()
+        }
+        Laid::Refused(refusal) => {
+            *length = 0;
             word::refused(refusal)
         }
     }

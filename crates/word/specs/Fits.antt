@@ -3,7 +3,7 @@ use Prim.Native.Nat.{_<_}
 use native.Mathlib.Omega.{arith}
 use Rattle.size.specs.Refusal.{numberOf}
 use Rattle.size.specs.declared.Refusal.{Refusal}
-use Rattle.size.specs.declared.Refusal.the-variants.{BadSize, BadSlope, BadLength, BadPlace, Damaged, BadMark, CutShort, Doubtful, NotGood, DiffersElsewhere}
+use Rattle.size.specs.declared.Refusal.the-variants.{BadSize, BadSlope, BadLength, BadPlace, Damaged, BadMark, CutShort, Doubtful, TooSmall, NotGood, DiffersElsewhere}
 use Rattle.word.specs.Word.{Answer, answer}
 
 -- an answer's numbers are below 2¹⁶
@@ -20,5 +20,6 @@ number-fits Damaged = omega arith
 number-fits BadMark = omega arith
 number-fits CutShort = omega arith
 number-fits Doubtful = omega arith
+number-fits TooSmall = omega arith
 number-fits NotGood = omega arith
 number-fits DiffersElsewhere = omega arith

@@ -1,12 +1,12 @@
--- WHAT A READER MUST BELIEVE: the word and the numbers that stand for each answer, and the line and the kind that a number names (SPEC 11.1, 11.3
--- and 11.5). Assumes nothing.
+-- WHAT A READER MUST BELIEVE: the word and the numbers that stand for each answer, and the kind and the record that a number names (SPEC 11.1, 11.5
+-- and 11.6). Assumes nothing.
 use mathlib.Core.Bool.{cond}
-use Prim.Native.Nat.{ℕ, _+_, _-_, _*_}
-use lib.Dec.{eqb, ltb}
+use Prim.Native.Nat.{ℕ, _+_, _*_}
+use lib.Dec.{eqb}
 use Rattle.code.specs.declared.Kind.{Kind}
 use Rattle.code.specs.declared.Kind.the-variants.{New, Old}
-use Rattle.code.specs.declared.Line.{Line}
-use Rattle.code.specs.declared.Line.the-variants.{Row, Column}
+use Rattle.header.specs.declared.Mark.{Mark}
+use Rattle.header.specs.declared.Mark.the-variants as mark
 use Rattle.size.specs.Answer as size
 use Rattle.promise.specs.Answer as tile
 
@@ -40,10 +40,6 @@ tileAnswer (tile.column c) = answer 1 c 0
 tileAnswer (tile.row r) = answer 2 r 0
 tileAnswer (tile.refused n) = refusal n
 
--- SPEC 11.3: a number below 8000 hex names the row with that number, and any other the column that is 8000 hex less
-unfoldable pub lineOf : ℕ → Line
-lineOf n = cond (ltb n 0x8000) (Row n) (Column (n - 0x8000))
-
 -- SPEC 11.5: 1 is old, and every other number new; a kind comes back as 0 or 1
 unfoldable pub tileKind : ℕ → Kind
 tileKind n = cond (eqb n 1) Old New
@@ -51,3 +47,7 @@ tileKind n = cond (eqb n 1) Old New
 abbrev pub kindNumber : Kind → ℕ
 kindNumber New = 0
 kindNumber Old = 1
+
+-- SPEC 11.6: 1 is the record of an old tile, 2 the flagged one, and every other number that of a new tile
+unfoldable pub markOf : ℕ → Mark
+markOf n = cond (eqb n 1) mark.Old (cond (eqb n 2) mark.Flagged mark.Plain)

@@ -1,6 +1,6 @@
-// Answers as words, and numbers as lines and kinds: what the C library's calls have in common.
+// Answers as words, and numbers as kinds of tiles and records: what the C library's calls have in common.
 use code::Kind;
-use code::Line;
+use header::Mark;
 use promise::Outcome;
 use size::Judgement;
 use size::Refusal;
@@ -76,18 +76,7 @@ pub fn of_outcome(answer: Outcome) -> u64
 pub fn version() -> u64
     ensures { λ r. ⌜ r ≡ numbered.version ⌝ }
 {
-    601
-}
-
-// The line that a number names.
-pub fn line(n: usize) -> Line
-    ensures { λ r. ⌜ r ≡ spec.lineOf n ⌝ }
-{
-    if n < 0x8000 {
-        Line::Row(n)
-    } else {
-        Line::Column(n - 0x8000)
-    }
+    700
 }
 
 // The kind that a number stands for: 1 is old, and every other one new, the stricter of the two.
@@ -105,4 +94,17 @@ pub fn kind_number(kind: Kind) -> u64
         Kind::New => 0,
         Kind::Old => 1,
     }
+}
+
+// Which record a number stands for: 1 is that of an old tile, 2 the flagged one, and every other that of a new tile.
+pub fn mark(n: usize) -> Mark
+    ensures { λ r. ⌜ r ≡ spec.markOf n ⌝ }
+{
+    if n == 1 {
+        return Mark::Old;
+    }
+    if n == 2 {
+        return Mark::Flagged;
+    }
+    Mark::Plain
 }

@@ -1,5 +1,5 @@
 -- `word::kind` meets its contract. Assumes nothing.
-use Rattle.word.specs.Lines.{kind-old, kind-new}
+use Rattle.word.specs.Kinds.{kind-old, kind-new}
 use Rattle.word.proofs.kind.Statement.{statement}
 use Rattle.word.proofs.kind.Tie as tie
 
