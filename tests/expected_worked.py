@@ -1,5 +1,5 @@
 """What the program `worked` has to print for its script, crates/worked/stdin. It is worked out from the rules of SPEC, never from the
-program. And what SPEC 10 says of its tiles and its reel, and the paper of its examples, and what is known of tiles that were hurt here, is
+program. And what SPEC 10 says of its tiles and its reels, and the paper of its examples, and what is known of tiles that were hurt here, is
 held against it: the script must ask it, and the rules must give the answer that is said; only then is the text printed."""
 
 import sys
@@ -8,8 +8,7 @@ sys.dont_write_bytecode = True  # leave no files beside the sources
 
 from pathlib import Path  # noqa: E402
 
-from expected import edge, paper, tiles  # noqa: E402
-from expected.reel import MIXED_PLACES, MIXED_REEL, WHOLE_PLACES, WHOLE_REEL  # noqa: E402
+from expected import edge, paper, tiles, worked_reels  # noqa: E402
 from expected.script import run  # noqa: E402
 from expected.sizes import NEW  # noqa: E402
 
@@ -31,7 +30,5 @@ def says(name, p, l, held, lent, answer=None, left=None, lines=(), begins="", ki
 tiles.hold(says)
 edge.hold(says)
 paper.hold(says)
-for reel, places in ((WHOLE_REEL, WHOLE_PLACES), (MIXED_REEL, MIXED_PLACES)):
-    for at, stands in places.items():
-        says("place", at, 0, list(reel), [], left=list(reel), begins=stands)
+worked_reels.hold(says)
 print(printed, end="")

@@ -17,7 +17,8 @@ import fed  # noqa: E402
 from expected.reel import listing  # noqa: E402
 from expected.reels import GROUPS, pieces  # noqa: E402
 
-UNREADABLE = b"counterfrost-list: the input could not be read\n"  # its words on standard error where reading standard input fails (SPEC 8.2)
+# The program's words on standard error where reading standard input fails (SPEC 8.2).
+UNREADABLE = b"counterfrost-list: the input could not be read\n"
 
 
 class Trial(NamedTuple):

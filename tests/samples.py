@@ -10,13 +10,15 @@ sys.dont_write_bytecode = True  # leave no files beside the sources
 
 from pathlib import Path  # noqa: E402
 
-from expected import long_reel, projectionist  # noqa: E402
-from expected.reel import WHOLE_REEL, listing  # noqa: E402
+from expected import flags_reel, long_reel, projectionist  # noqa: E402
+from expected.reel import listing  # noqa: E402
+from expected.worked_reels import WHOLE_REEL  # noqa: E402
 
 TOP = Path(__file__).resolve().parent.parent
 PAGE = "samples/README.md"
 LONG_HEADS = ("record", "offset", "number", "p", "l", "what was done to it", "the line it must give")
 OLD_HEADS = ("record", "offset", "kind", *LONG_HEADS[2:])
+FLAGS_HEADS = ("record", "offset", "header", "flags", *LONG_HEADS[-2:])
 MOST = 40000  # the reels stay below so many bytes
 
 
@@ -40,21 +42,24 @@ def with_table(page, heads, rows):
 
 
 def page():
-    """The page about the samples, with both tables."""
+    """The page about the samples, with all tables."""
     kept = (TOP / PAGE).read_text(encoding="utf-8")
     kept = with_table(kept, LONG_HEADS, long_reel.rows())
-    return with_table(kept, OLD_HEADS, [fields for _, *fields in projectionist.rows()])
+    kept = with_table(kept, OLD_HEADS, [fields for _, *fields in projectionist.rows()])
+    return with_table(kept, FLAGS_HEADS, [fields for _, *fields in flags_reel.rows()])
 
 
 def files():
     """What each file has to hold."""
-    long, old = long_reel.reel(), projectionist.reel()
-    assert len(long) < MOST and len(old) < MOST
+    long, old, flags = long_reel.reel(), projectionist.reel(), flags_reel.reel()
+    assert max(map(len, (long, old, flags))) < MOST
     return {
         "samples/short.reel": WHOLE_REEL,
         "samples/long.reel": long,
         "samples/projectionist.reel": old,
         "samples/projectionist.expected": projectionist.LISTING.encode(),
+        "samples/flags.reel": flags,
+        "samples/flags.expected": flags_reel.LISTING.encode(),
         "crates/list/stdin": long,
         "crates/list/stdout": listing(long).encode(),
         PAGE: page().encode(),

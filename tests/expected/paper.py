@@ -137,7 +137,7 @@ def hold_example_4_1(says):
 
 
 def hold_filled(says, scan, *lines):
-    """Two lines erased. The sums are asked for with zeros for the erased bits. The decoded array is the paper's; its text writes it again."""
+    """Two lines erased. The sums are asked for with zeros for the erased bits. The decoded array is the paper's, and its text writes it."""
     decoded = array(DECODED_4_2)
     hold_sums(says, 7, 3, array(scan))
     says("fill", 7, 3, array(scan, 255), [], "done", decoded, lines)

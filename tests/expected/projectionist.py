@@ -2,10 +2,11 @@
 held against the listing that is worked out from the bytes (tests/expected/reel.py), and what fill answers for the lost lines is worked out
 too (tests/expected/tile.py)."""
 
+from expected.caption import captioned
 from expected.done import cells, lines, nothing
 from expected.reel import listing, record
 from expected.sizes import NEW, OLD, is_allowed
-from expected.tile import fill, text_length, tile_length, write
+from expected.tile import fill
 
 # Invented for this reel.
 CAPTION = """\
@@ -29,14 +30,6 @@ TILES = (
 assert all(is_allowed(p, l) == (kind == NEW) for kind, _, p, l, *_ in TILES)
 
 
-def written(kind, p, l):
-    """The tile before anything was done to it: as much of the caption as it holds, and spaces behind it."""
-    text = CAPTION.encode()[: text_length(p)].ljust(text_length(p))
-    answer, tile = write(kind, p, l, text, [0] * tile_length(p))
-    assert answer == "done"
-    return tile
-
-
 def hold_filled(kind, p, l, whole, hurt, filled):
     """What fill answers for lost lines: done, with the tile from before, or a refusal, and the tile is as it was lent."""
     lost, said = filled
@@ -47,7 +40,7 @@ def rows():
     """For each record its bytes, its place in the reel, its fields, what was done, and its line."""
     at, found = 0, []
     for n, (kind, number, p, l, done, answer, filled) in enumerate(TILES, start=1):
-        whole = written(kind, p, l)
+        whole = captioned(kind, p, l, CAPTION)
         hurt = done.to(p, whole)
         if filled:
             hold_filled(kind, p, l, whole, hurt, filled)

@@ -1,13 +1,13 @@
 """The script of the program `worked`, and what has to be answered to each of its questions. The script says at its top how it is read. The
 answers come from the rules of SPEC: of tiles in tests/expected/tile.py, of sheets, sizes and reels in the files beside it."""
 
-from struct import unpack_from
 from typing import NamedTuple
 
 from expected import reel as reels
+from expected.flag import line_of
 from expected.sheet import correct
 from expected.sizes import HOUSE, NEW, OLD, Kind, is_size, verdict
-from expected.tile import fill, judge, read, recover, repair, sums, tile_length, write
+from expected.tile import fill, judge, read, recover, repair, sums, write
 
 COLON = 23  # the column that tells a question
 LOST = 0xFF  # what a byte that is lost lies there as
@@ -31,7 +31,7 @@ def number(text):
     return int(text) if text.strip() else 0
 
 
-def flag(text):
+def named_line(text):
     """A row or a column in three columns. Capital letters count down from the largest number."""
     kind = {"r": "row", "c": "column"}[text[0].lower()]
     return kind, NUMBERS - 1 - int(text[1:]) if text[0].isupper() else int(text[1:])
@@ -49,7 +49,7 @@ def question(line):
         return None
     name, sign, p, l, first, second = line[:7].strip(), line[7], line[8:11], line[12:15], line[16:19], line[20:23]
     held, _, lent = line[COLON + 1 :].partition(":")
-    lines = (flag(first), flag(second)) if name in ("fill", "accept") else ()
+    lines = (named_line(first), named_line(second)) if name in ("fill", "accept") else ()
     return Question(name, OLD if sign == "o" else NEW, number(p), number(l), lines, parsed(held), parsed(lent))
 
 
@@ -58,27 +58,34 @@ def listed(data):
     return ":" + "".join(f" {byte:02x}" for byte in data)
 
 
+def told(tile):
+    """A tile of a reel in words: an old one is said to be one, and each flag that tells of a line is told."""
+    kind = "old tile" if tile.kind == OLD else "tile"
+    told = zip(("first", "second"), map(line_of, tile.flags))
+    lost = "".join(f" {name} flag {line[0]} {line[1]}" for name, line in told if line)
+    return f"{kind} {tile.number} {tile.p} {tile.l}{lost} at {tile.start}"
+
+
 def found(reel, at):
-    """SPEC 7.2 and 7.3: what stands at a place of a reel, and the place behind it: where no tile stands, the place itself."""
+    """SPEC 7.2 and 7.3: what stands at a place of a reel, and where the tile's bytes begin and end: where no tile stands, at the place
+    itself."""
     if at >= len(reel):
-        return "end", at
+        return "end", at, at
     no = reels.refusal(reel, at)
     if no:
-        return f"refused {no} at {at}", at
-    mark, p, l, number = unpack_from(reels.LAYOUT, reel, at)
-    start = at + reels.HEADER
-    tile = "old tile" if reels.KINDS[mark] == OLD else "tile"
-    return f"{tile} {number} {p} {l} at {start}", start + tile_length(p)
+        return f"refused {no} at {at}", at, at
+    tile = reels.tile_at(reel, at)
+    return told(tile), tile.start, tile.end
 
 
 def at_place(reel, at):
-    """SPEC 7.3, and 7.4 for a reader's second step: all that is asked for at a place. The tile's bytes lie between its header and the
-    place behind it; without a tile there are none."""
-    here, after = found(reel, at)
+    """SPEC 7.3, and 7.4 for a reader's second step: all that is asked for at a place. The next record is where the tile's bytes end."""
+    here, start, after = found(reel, at)
     rest = reel[after:]
-    second, _ = found(reel, found(reel, 0)[1])
-    told = f"{here} after {after} rest {len(rest)} {found(rest, 0)[0]} second {second}"
-    return told + listed(reel[at + reels.HEADER : after])
+    _, _, behind_first = found(reel, 0)
+    second, *_ = found(reel, behind_first)
+    first_of_rest, *_ = found(rest, 0)
+    return f"{here} after {after} rest {len(rest)} {first_of_rest} second {second}{listed(reel[start:after])}"
 
 
 def answered(asked):

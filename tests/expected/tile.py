@@ -59,6 +59,12 @@ def places(p, line):
     return [place(p, i, n) for i in range(p - 1)]
 
 
+def has_line(p, line):
+    """SPEC 3.4: whether a tile of size p has the line."""
+    _, n = line
+    return n <= p - 2
+
+
 @lru_cache(maxsize=600)  # more than the largest tile has lines
 def coefficients(p, l, lines):
     """SPEC 5.8: the left sides of the 2p equations, those of slope 1 and then those of slope l, as bits: bit 0 for the common byte, and one
@@ -238,7 +244,7 @@ def fill(kind, p, l, tile, first, second):
     no = refusal(kind, p, l, lambda: len(tile) == tile_length(p))
     if no:
         return no, tile
-    if first[1] > p - 2 or second[1] > p - 2:
+    if not (has_line(p, first) and has_line(p, second)):
         return "refused 4", tile
     filled = filling(p, l, tile, first, second)
     if filled in (None, SEVERAL):
@@ -251,7 +257,7 @@ def judge(p, l, scan, restored, first, second):
     no = refusal(NEW, p, l, lambda: len(scan) == len(restored) == tile_length(p))
     if no:
         return no
-    if first[1] > p - 2 or second[1] > p - 2:
+    if not (has_line(p, first) and has_line(p, second)):
         return "refused 4"
     named = {*places(p, first), *places(p, second)}
     agree = all(scan[k] == restored[k] for k in range(tile_length(p)) if k not in named)

@@ -1,6 +1,8 @@
 // Answers in words and numbers on standard output, each with a space before it. A write that fails is not told: the comparison with `stdout`
 // then finds the text missing.
 use code::Kind;
+use code::Line;
+use flag::Flag;
 use libc::STDOUT_FILENO;
 use promise::Outcome;
 use promise::Repaired;
@@ -67,7 +69,8 @@ pub fn corrected(corrected: Corrected) {
     }
 }
 
-// A tile's kind, where it is old, its number, size and slope, and where its bytes begin; the end; or a refusal's number and offset.
+// A tile's kind, where it is old, its number, size and slope, its flags, where it has any, and where its bytes begin; the end; or a
+// refusal's number and offset.
 pub fn found(found: Found) {
     match found {
         Found::Tile(tile) => {
@@ -76,6 +79,10 @@ pub fn found(found: Found) {
             count(b" tile", tile.number);
             count(b"", tile.p);
             count(b"", tile.l);
+            let first = tile.first;
+            let second = tile.second;
+            flag(b" first flag", first);
+            flag(b" second flag", second);
             count(b" at", tile.at);
         }
         Found::End => words(b" end"),
@@ -91,5 +98,23 @@ fn kind(kind: Kind) {
     match kind {
         Kind::New => {}
         Kind::Old => words(b" old"),
+    }
+}
+
+// Which flag it is, and its line; of none, nothing.
+fn flag(name: &[u8], flag: Flag) {
+    match flag {
+        Flag::None => {}
+        Flag::Lost(lost) => {
+            words(name);
+            line(lost);
+        }
+    }
+}
+
+fn line(line: Line) {
+    match line {
+        Line::Row(r) => count(b" row", r),
+        Line::Column(c) => count(b" column", c),
     }
 }

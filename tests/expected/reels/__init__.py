@@ -1,10 +1,10 @@
 """The reels that the program `list` is tried on, group by group. Each group is a function that gives named reels."""
 
-from expected.reels import fields, garbage, lengths, refusals, spoiled, tiles
+from expected.reels import fields, flags, garbage, lengths, refusals, spoiled, tiles
 
 GROUPS = {
-    "the whole reel of SPEC 10, the empty reel, one record cut short": lengths.short_reels,
-    "three records cut at every length": lengths.every_cut,
+    "the worked reels of SPEC 10, the empty reel, one record cut short": lengths.short_reels,
+    "a few records cut at every length": lengths.every_cut,
     "as many bytes as are taken": lengths.most_bytes,
     "more bytes than are taken": lengths.too_long,
     "each state of a tile": tiles.each_state,
@@ -19,8 +19,14 @@ GROUPS = {
     "each size that fits": fields.each_size,
     "each slope": fields.each_slope,
     "the largest size that fits": fields.largest,
+    "the same with flags": fields.largest_flagged,
     "the size above it": fields.above_largest,
     "tile numbers": fields.numbers,
+    "every two flags at an edge": flags.two_flags,
+    "each flag at an edge, at other sizes": flags.lone_flags,
+    "each kind of a flagged tile": flags.each_kind,
+    "every two lines flagged": flags.every_two_lines,
+    "records of all sorts, drawn": flags.drawn_reels,
     "each refusal": refusals.each_refusal,
     "several faults in one record": refusals.several_faults,
     "offsets of refusals": refusals.offsets,

@@ -1,8 +1,11 @@
 """Reels by their length: the empty one, one cut short at every place, and those at and above the most that `list` takes (SPEC 8.2)."""
 
-from expected.reel import HEADER, LONGEST, WHOLE_LISTING, WHOLE_REEL, record
-from expected.reels.made import Case, good, joined, mixed, record_length
+from itertools import accumulate
+
+from expected.reel import HEADER, LONGEST, NO_FLAGS, record
+from expected.reels.made import LOST, Case, all_sorts, flagged, good, joined, mixed, record_length
 from expected.sizes import HOUSE, SIZES
+from expected.worked_reels import FLAGS_LISTING, FLAGS_REEL, WHOLE_LISTING, WHOLE_REEL
 
 # Which sizes come first on a reel of 65,536 bytes that ends well. Sizes 5 and 7 follow.
 MOST = {
@@ -31,8 +34,9 @@ def filled(total):
 
 
 def short_reels():
-    """The whole reel of SPEC 10, the empty reel, and one record cut after each byte of its header and before its last byte."""
+    """The worked reels of SPEC 10, the empty reel, and one record cut after each byte of its header and before its last byte."""
     yield Case("the whole reel of SPEC 10", WHOLE_REEL, WHOLE_LISTING.rstrip("\n"))
+    yield Case("the reel with flags of SPEC 10", FLAGS_REEL, FLAGS_LISTING.rstrip("\n"))
     yield Case("empty", b"", "end 0")
     yield Case("one byte 00", b"\x00", "stopped 7 0")
     yield Case("one byte D5", b"\xd5", "stopped 7 0")
@@ -45,13 +49,19 @@ def short_reels():
 
 
 def every_cut():
-    """Three records, cut at every length: new ones, and such of both kinds."""
-    ends = {0: "end 0", 26: "end 1", 72: "end 2", 98: "end 3"}  # the lengths at which a record ends
-    for name, reel in {"three new records": joined([5, 7, 5]), "three records": mixed([5, 7, 5])}.items():
-        assert len(reel) == 98
-        for length in range(99):
-            start = max(end for end in ends if end <= length)
-            yield Case(f"{name} cut to {length} bytes", reel[:length], ends.get(length, f"stopped 7 {start}"))
+    """A few records, cut at every length: new ones, such of both kinds, and such of all three sorts."""
+    reels = {
+        "three new records": (joined([5, 7, 5]), (26, 46, 26)),
+        "three records": (mixed([5, 7, 5]), (26, 46, 26)),
+        "four records of three sorts": (all_sorts([5, 7, 5, 7]), (30, 46, 26, 50)),
+    }
+    for name, (reel, lengths) in reels.items():
+        ends = [0, *accumulate(lengths)]
+        assert len(reel) == ends[-1]
+        for length in range(len(reel) + 1):
+            count, start = max((n, end) for n, end in enumerate(ends) if end <= length)
+            closing = f"end {count}" if start == length else f"stopped 7 {start}"
+            yield Case(f"{name} cut to {length} bytes", reel[:length], closing)
 
 
 def most_bytes():
@@ -61,6 +71,8 @@ def most_bytes():
         yield Case(f"65536 bytes, {name}", joined(sizes), f"end {len(sizes)}")
     last = record(9, 251, HOUSE[251], good(251, HOUSE[251]))
     yield Case("65536 bytes, the largest last", filled(LONGEST - len(last)) + last, "9 251 6 clean\nend 112")
+    last = flagged(9, 251, HOUSE[251], LOST["a row with a column"](251))
+    yield Case("65536 bytes, the largest last, with flags", filled(LONGEST - len(last)) + last, "9 251 6 filled\nend 108")
     fives = joined([5] * 2520)
     yield Case("65536 bytes, zeros behind 2520 tiles", fives + bytes(16), "stopped 6 65520")
     yield Case("65536 bytes, a body cut short", fives + record(1, 5, 2, bytes(6)), "stopped 7 65520")
@@ -78,6 +90,7 @@ def too_long():
         "65538 bytes, a sound reel": filled(65538),
         "65538 bytes, zeros": bytes(65538),
         "65546 bytes, a record of size 257": record(1, 257, 3, bytes(65536)),
+        "65550 bytes, a flagged record of size 257": record(1, 257, 3, bytes(65536), flags=NO_FLAGS),
         "200000 bytes, a sound reel": filled(200000),
         "200000 bytes, zeros": bytes(200000),
     }

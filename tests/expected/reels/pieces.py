@@ -2,9 +2,10 @@
 
 from itertools import accumulate, pairwise
 
-from expected.reel import LONGEST, WHOLE_REEL
+from expected.reel import FLAGGED_HEADER, LONGEST
 from expected.reels.lengths import filled
-from expected.reels.made import joined, record_length
+from expected.reels.made import all_sorts, joined, record_length
+from expected.worked_reels import FLAGS_REEL, WHOLE_REEL
 
 
 def cut_up(reel, *lengths):
@@ -22,7 +23,9 @@ def cases():
     return {
         "nothing": [],
         "the whole reel of SPEC 10 byte by byte": cut_up(WHOLE_REEL, 1),
+        "the reel with flags of SPEC 10 byte by byte": cut_up(FLAGS_REEL, 1),
         "record by record": cut_up(joined(sizes), *map(record_length, sizes)),
+        "the header of a flagged record, its tile, then 9 bytes at a time": cut_up(all_sorts(sizes), FLAGGED_HEADER, 16, 9),
         "a byte, then 9 bytes at a time": cut_up(joined(sizes), 1, 9),
         "65536 bytes: one, then 1000 at a time": cut_up(sound, 1, 1000),
         "65536 bytes: all at once": [sound],

@@ -3,27 +3,36 @@ faults (SPEC 9.2)."""
 
 from itertools import product
 
-from expected.reel import HEADER, record
-from expected.reels.made import Case, good, joined, mixed
-from expected.sizes import NEW, OLD, Kind
+from expected.flag import NONE
+from expected.reel import record
+from expected.reels.made import SORTS, Case, all_sorts, good, joined
 
-PLACES = {"first": b"", "behind one": joined([5]), "behind three": mixed([7, 5, 11])}
-MARKS = ("D4 5D", "D5 5C", "D5 5E", "D4 5C", "00 5D", "D5 00", "00 00", "FF FF", "C3 3C", "5C D5", "5D D4", "5D D6", "5D 5D", "D5 D5")
+PLACES = {"first": b"", "behind one": joined([5]), "behind three": all_sorts([7, 5, 11])}
+MARKS = (
+    *("D4 5D", "D5 5C", "D5 5F", "D4 5C", "00 5D", "D5 00", "00 00", "FF FF", "C3 3C", "5C D5", "5D D4", "5D D6", "5D 5D", "D5 D5"),
+    *("D4 5E", "5E D5", "5E 5E", "D5 DE"),
+)
 SIZES = (0, 1, 2, 3, 4, 6, 8, 9, 15, 25, 253, 255, 256, 258, 261, 263, 1285, 65535)  # 261, 263, 1285: the low byte is a size
 # At each size slopes below 2 and from p-1 on, some of them with the low byte of an allowed one; and for new tiles slopes whose powers miss.
 SLOPES = {
-    NEW: {
+    "NEW": {
         5: (0, 1, 4, 5, 6, 255, 256, 258, 512, 65535),
         7: (0, 1, 2, 4, 6, 7, 259, 768, 65535),
         11: (0, 1, 3, 4, 5, 9, 10, 11, 258, 65535),
         17: (0, 1, 2, 4, 8, 9, 13, 15, 16, 17, 65535),
     },
-    OLD: {
+    "OLD": {
         5: (0, 1, 4, 5, 258, 65535),
         7: (0, 1, 6, 7, 258, 512, 65535),
         17: (0, 1, 16, 17, 258, 65535),
     },
+    "FLAGGED": {
+        5: (0, 1, 4, 258),
+        7: (0, 1, 2, 4, 6, 259),
+        17: (2, 16, 65535),
+    },
 }
+FLAGS = (0x0004, 0x8004)  # of lines that a tile of size 5 just does not have; tests/expected/reels/flags.py has more
 
 
 def lone_faults():
@@ -31,17 +40,20 @@ def lone_faults():
     bytes of a tile do, so that there is something to go on to."""
     for mark in MARKS:
         yield f"mark {mark}", 6, record(7, 5, 2, good(5, 2), mark=bytes.fromhex(mark))
-    for kind in Kind:
-        sound = record(7, 5, 2, good(5, 2), kind)
-        for length in range(1, HEADER):
-            yield f"{kind.name}, {length} bytes of a header", 7, sound[:length]
+    for sort, told in SORTS.items():
+        header, tile = record(7, 5, 2, b"", **told), good(5, 2)
+        for length in range(1, len(header)):
+            yield f"{sort}, {length} bytes of a header", 7, header[:length]
         for p in SIZES:
-            yield f"{kind.name}, size {p}", 1, record(7, p, 2, good(5, 2), kind)
-        for p, slopes in SLOPES[kind].items():
+            yield f"{sort}, size {p}", 1, record(7, p, 2, tile, **told)
+        for p, slopes in SLOPES[sort].items():
             for l in slopes:
-                yield f"{kind.name}, slope {l} at {p}", 2, record(7, p, l, bytes((p - 1) ** 2), kind)
-        for length in range(len(sound) - HEADER):
-            yield f"{kind.name}, {length} bytes of a tile", 7, sound[: HEADER + length]
+                yield f"{sort}, slope {l} at {p}", 2, record(7, p, l, bytes((p - 1) ** 2), **told)
+        for length in range(len(tile)):
+            yield f"{sort}, {length} bytes of a tile", 7, header + tile[:length]
+    for flag in FLAGS:
+        for flags in ((flag, NONE), (0x0000, flag)):
+            yield "flags {:04X} and {:04X}".format(*flags), 4, record(7, 5, 2, good(5, 2), flags=flags)
 
 
 def each_refusal():
@@ -55,21 +67,35 @@ def each_refusal():
                 yield Case(f"{place}, {name}, good ones behind", reel, f"stopped {number} {len(before)}")
 
 
-def several_faults():
-    """Every choice of faults in one record: wrong mark 6, wrong size 1, wrong slope 2, a body cut short 7; the first of them in this
-    order is given. A header cut short comes before all."""
-    for kind, marked, sized, sloped, whole in product(Kind, *[(True, False)] * 4):
-        p = 5 if sized else 9
-        faulty = record(7, p, 2 if sloped else 0, good(5, 2), kind, mark=None if marked else b"\xd5\x00")
-        faults = [(marked, 6), (sized, 1), (sloped, 2), (whole, 7)]
-        numbers = [number for sound, number in faults if not sound]
-        if not numbers:
+def faulty_records():
+    """Every choice of faults in one record: its sort, the numbers of its faults in the order in which they are told, its header, and what
+    there is of its tile. The faults are a wrong mark 6, a wrong size 1, a wrong slope 2, in a flagged record a flag that it cannot carry 4,
+    and a tile cut short 7."""
+    for sort, marked, sized, sloped, carried, whole in product(SORTS, *[(True, False)] * 5):
+        if not carried and sort != "FLAGGED":
             continue
-        name = f"{kind.name}, faults " + " ".join(map(str, numbers))
+        told = SORTS[sort] if carried else {"flags": (FLAGS[0], NONE)}
+        mark = None if marked else b"\xd5\x00"
+        header = record(7, 5 if sized else 9, 2 if sloped else 0, b"", **told, mark=mark)
+        faults = ((marked, 6), (sized, 1), (sloped, 2), (carried, 4), (whole, 7))
+        numbers = [number for sound, number in faults if not sound]
+        if numbers:
+            tile = good(5, 2)
+            yield sort, numbers, header, tile if whole else tile[:3]
+
+
+def several_faults():
+    """All of them at each place: the first fault is told. And once with the header cut short, which comes before all; if that of a flagged
+    record has ten bytes or more, it comes behind the mark."""
+    sound = PLACES["behind three"]
+    for sort, numbers, header, tile in faulty_records():
+        name = f"{sort}, faults " + " ".join(map(str, numbers))
         for place, before in PLACES.items():
-            end = f"stopped {numbers[0]} {len(before)}"
-            yield Case(f"{place}, {name}", before + (faulty if whole else faulty[:13]), end)
-            yield Case(f"{place}, {name}, 9 bytes", before + faulty[:9], f"stopped 7 {len(before)}")
+            yield Case(f"{place}, {name}", before + header + tile, f"stopped {numbers[0]} {len(before)}")
+        yield Case(f"{name}, 9 bytes", sound + header[:9], f"stopped 7 {len(sound)}")
+        if sort == "FLAGGED":
+            number = 6 if numbers[0] == 6 else 7
+            yield Case(f"{name}, 13 bytes", sound + header[:13], f"stopped {number} {len(sound)}")
 
 
 def offsets():

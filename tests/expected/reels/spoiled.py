@@ -2,15 +2,16 @@
 
 from random import Random
 
-from expected.reels.made import Case, joined, mixed
+from expected.reels.made import Case, all_sorts, joined, mixed
 
 SOUND = {
     "small": joined([5, 7, 5, 11, 7, 5]),
     "mixed": joined([11, 5, 13, 7, 17, 5, 19]),
     "large": joined([5, 61, 7]),
     "old and new": mixed([7, 5, 11, 7, 17, 13, 7]),
+    "all sorts": all_sorts([5, 7, 5, 7, 11, 5, 13, 7, 5, 7]),
 }
-TRIES = 100
+TRIES = 80
 
 
 def drawn(seed):
@@ -30,10 +31,10 @@ def byte_changed():
 
 
 def header_byte_changed():
-    """Each byte of a record's header becomes another one, in several ways: of a new record, and of an old one."""
-    for name, start in (("small", 26), ("old and new", 46 + 26)):
+    """Each byte of a record's header becomes another one, in several ways: of a new record, of an old one, and of a flagged one."""
+    for name, start, length in (("small", 26, 10), ("old and new", 46 + 26, 10), ("all sorts", 30 + 46 + 26, 14)):
         reel = SOUND[name]
-        for at in range(start, start + 10):
+        for at in range(start, start + length):
             for change in (0x01, 0x02, 0x04, 0x10, 0x80, 0x88, 0xFF):
                 byte = reel[at] ^ change
                 yield Case(f"{name}, header byte {at} changed to {byte:02X}", reel[:at] + bytes([byte]) + reel[at + 1 :])
