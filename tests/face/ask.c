@@ -12,7 +12,7 @@
 #include "peer.h"
 #include "peer_rules.h"
 
-enum { MOST_TOLD = 5, MOST_LENT = 2, MOST_NUMBERS = 5, SHOWN_BYTES = 128 };
+enum { MOST_TOLD = 6, MOST_LENT = 2, MOST_NUMBERS = 7, SHOWN_BYTES = 128 };
 
 /* Who is asked: the peer, the library, and the library once more, with the other kind. */
 enum side { PEER, LIBRARY, OTHER_KIND, SIDES };
@@ -44,12 +44,14 @@ struct question {
     uint64_t word[SIDES];
 };
 
-/* The format has a place for each number that is told; the others are 0. */
-static void put(struct question *question, const char *format, size_t first, size_t second, size_t third, size_t fourth, size_t fifth)
+/* The numbers that are told; those that are not listed are 0. */
+#define TOLD(...) ((const size_t[MOST_TOLD]){__VA_ARGS__})
+
+/* The format has a place for each number that is told. */
+static void put(struct question *question, const char *format, const size_t *told)
 {
-    const size_t told[MOST_TOLD] = {first, second, third, fourth, fifth};
     question->format = format;
-    memcpy(question->told, told, sizeof told);
+    memcpy(question->told, told, sizeof question->told);
     question->sides = OTHER_KIND;
     question->lent_count = question->number_count = 0;
 }
@@ -57,7 +59,7 @@ static void put(struct question *question, const char *format, size_t first, siz
 /* A question with a kind, p and l. Where both kinds judge p and l alike, they have to be answered alike. */
 static void put_of_tile(struct question *question, const char *format, size_t kind, size_t p, size_t l, size_t first, size_t second)
 {
-    put(question, format, kind, p, l, first, second);
+    put(question, format, TOLD(kind, p, l, first, second));
     if (judge_slope(NEW, p, l) == judge_slope(OLD, p, l))
         question->sides = SIDES;
     question->kind[PEER] = question->kind[LIBRARY] = kind;
@@ -196,7 +198,7 @@ static void print_question(const struct question *question)
 {
     char words[200];
     const size_t *told = question->told;
-    snprintf(words, sizeof words, question->format, told[0], told[1], told[2], told[3], told[4]);
+    snprintf(words, sizeof words, question->format, told[0], told[1], told[2], told[3], told[4], told[5]);
     detail("asked: %s", words);
     for (size_t k = 0; k < question->lent_count; k++)
         print_given(&question->lent[k]);
@@ -230,7 +232,7 @@ static uint64_t compare(struct question *question)
 uint64_t ask_house_slope(size_t p)
 {
     struct question question;
-    put(&question, "cf_house_slope, p %zu", p, 0, 0, 0, 0);
+    put(&question, "cf_house_slope, p %zu", TOLD(p));
     question.word[PEER] = peer_house_slope(p);
     question.word[LIBRARY] = cf_house_slope(p);
     return compare(&question);
@@ -295,7 +297,7 @@ uint64_t ask_judge(size_t p, size_t l, const uint8_t *scan, size_t scan_len, con
                    size_t second)
 {
     struct question question;
-    put(&question, "cf_judge, p %zu, l %zu, lines %zx and %zx hex", p, l, first, second, 0);
+    put(&question, "cf_judge, p %zu, l %zu, lines %zx and %zx hex", TOLD(p, l, first, second));
     struct lent *scans = for_reading(&question, "scan", scan, scan_len);
     struct lent *tiles = for_reading(&question, "restored tile", restored, restored_len);
     for (size_t side = 0; side < question.sides; side++)
@@ -344,20 +346,41 @@ uint64_t ask_correct(size_t kind, size_t p, size_t l, uint8_t *tile, size_t tile
 uint64_t ask_next(const uint8_t *reel, size_t reel_len, size_t at, struct found *found)
 {
     struct question question;
-    put(&question, "cf_next, at %zu", at, 0, 0, 0, 0);
+    put(&question, "cf_next, at %zu", TOLD(at));
     struct lent *reels = for_reading(&question, "reel", reel, reel_len);
     struct lent_number *kind = for_a_number(&question, "kind");
     struct lent_number *number = for_a_number(&question, "number");
     struct lent_number *p = for_a_number(&question, "p");
     struct lent_number *l = for_a_number(&question, "l");
+    struct lent_number *first = for_a_number(&question, "first flag");
+    struct lent_number *second = for_a_number(&question, "second flag");
     struct lent_number *offset = for_a_number(&question, "offset");
     for (size_t side = 0; side < question.sides; side++)
-        question.word[side] = (side == PEER ? peer_next : cf_next)(reels[side].bytes, reel_len, at, &kind[side].value, &number[side].value,
-                                                                   &p[side].value, &l[side].value, &offset[side].value);
+        question.word[side] =
+            (side == PEER ? peer_next : cf_next)(reels[side].bytes, reel_len, at, &kind[side].value, &number[side].value, &p[side].value,
+                                                 &l[side].value, &first[side].value, &second[side].value, &offset[side].value);
     found->kind = kind[PEER].value;
     found->number = number[PEER].value;
     found->p = p[PEER].value;
     found->l = l[PEER].value;
+    found->first = first[PEER].value;
+    found->second = second[PEER].value;
     found->offset = offset[PEER].value;
+    return compare(&question);
+}
+
+/* The kinds have records of their own, so the library is asked once. */
+uint64_t ask_lay(size_t which, size_t p, size_t l, uint32_t number, size_t first, size_t second, const uint8_t *tile, size_t tile_len,
+                 uint8_t *room, size_t room_len, uint64_t *length)
+{
+    struct question question;
+    put(&question, "cf_lay, which %zu, p %zu, l %zu, number %zu, flags %zx and %zx hex", TOLD(which, p, l, number, first, second));
+    struct lent *tiles = for_reading(&question, "tile", tile, tile_len);
+    struct lent *rooms = for_writing(&question, "room", room, room_len);
+    struct lent_number *lengths = for_a_number(&question, "length");
+    for (size_t side = 0; side < question.sides; side++)
+        question.word[side] = (side == PEER ? peer_lay : cf_lay)(which, p, l, number, first, second, tiles[side].bytes, tile_len,
+                                                                 rooms[side].bytes, room_len, &lengths[side].value);
+    *length = lengths[PEER].value;
     return compare(&question);
 }

@@ -17,6 +17,8 @@ struct found {
     uint64_t number;
     uint64_t p;
     uint64_t l;
+    uint64_t first;
+    uint64_t second;
     uint64_t offset;
 };
 
@@ -37,5 +39,9 @@ uint64_t ask_recover(size_t kind, size_t p, size_t l, const uint8_t *scan, size_
 uint64_t ask_correct(size_t kind, size_t p, size_t l, uint8_t *tile, size_t tile_len, const uint8_t *sheet, size_t sheet_len,
                      uint64_t *count_or_offset);
 uint64_t ask_next(const uint8_t *reel, size_t reel_len, size_t at, struct found *found);
+
+/* What the room holds before has to show whether a refused call leaves it, and any call what lies behind the record. */
+uint64_t ask_lay(size_t which, size_t p, size_t l, uint32_t number, size_t first, size_t second, const uint8_t *tile, size_t tile_len,
+                 uint8_t *room, size_t room_len, uint64_t *length);
 
 #endif

@@ -17,6 +17,9 @@ void cases_doubtful(void);
 void cases_margin(void);
 void cases_sheet(void);
 void cases_reel(void);
+void cases_flags(void);
+void cases_restore(void);
+void cases_lay(void);
 void cases_edges(void);
 
 #endif

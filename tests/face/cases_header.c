@@ -42,46 +42,68 @@ static void take_a_cell_apart(void)
     }
 }
 
-/* Kinds of an answer have the numbers of SPEC 11.1, refusals those of SPEC 9.1, and kinds of a tile those of SPEC 11.5. */
+/* Kinds of an answer have the numbers of SPEC 11.1, refusals those of SPEC 9.1, kinds of a tile those of SPEC 11.5, records those of SPEC
+ * 11.6, and the flag for no line that of SPEC 3.5. */
 static void know_the_numbers(void)
 {
-    static const unsigned kinds[][2] = {{CF_KIND_DONE, 0}, {CF_KIND_COLUMN, 1}, {CF_KIND_ROW, 2}, {CF_KIND_CELL, 3}, {CF_KIND_REFUSED, 4}, {CF_KIND_END, 7}};
+    static const unsigned kinds[][2] = {{CF_KIND_DONE, 0}, {CF_KIND_COLUMN, 1},  {CF_KIND_ROW, 2},
+                                        {CF_KIND_CELL, 3}, {CF_KIND_REFUSED, 4}, {CF_KIND_END, 7}};
     for (size_t k = 0; k < sizeof kinds / sizeof kinds[0]; k++)
         hold(kinds[k][0] == kinds[k][1], "the kind %u has the number %u", kinds[k][1], kinds[k][0]);
-    static const unsigned refusals[] = {CF_BAD_SIZE, CF_BAD_SLOPE, CF_BAD_LENGTH, CF_BAD_PLACE,
-                                        CF_DAMAGED,  CF_BAD_MARK,  CF_CUT_SHORT,  CF_DOUBTFUL};
-    for (unsigned k = 0; k < 8; k++)
+    static const unsigned refusals[] = {CF_BAD_SIZE, CF_BAD_SLOPE, CF_BAD_LENGTH, CF_BAD_PLACE, CF_DAMAGED,          CF_BAD_MARK,
+                                        CF_CUT_SHORT, CF_DOUBTFUL, CF_TOO_SMALL,  CF_NOT_GOOD,  CF_DIFFERS_ELSEWHERE};
+    for (unsigned k = 0; k < sizeof refusals / sizeof refusals[0]; k++)
         hold(refusals[k] == k + 1, "the refusal %u has the number %u", k + 1, refusals[k]);
-    hold(CF_NOT_GOOD == 10 && CF_DIFFERS_ELSEWHERE == 11, "the refusals 10 and 11 have the numbers %u and %u", CF_NOT_GOOD,
-         CF_DIFFERS_ELSEWHERE);
-    hold(CF_NEW == 0 && CF_OLD == 1, "new has the number %u, and old %u", CF_NEW, CF_OLD);
+    hold(CF_NEW == 0 && CF_OLD == 1 && CF_FLAGGED == 2, "new has the number %u, old %u, and flagged %u", CF_NEW, CF_OLD, CF_FLAGGED);
+    hold(CF_NO_FLAG == 0xFFFF, "no flag has the number %u", CF_NO_FLAG);
 }
 
-/* Up to 7FFE hex a line is named by its number, columns from 8000 hex on; a larger number still names a line of its kind that no tile
- * has. */
+/* Up to 7FFE hex a line is named by its number, columns from 8000 hex on; a larger number is named as 7FFE hex is, which no tile has. */
 static void name_lines(void)
 {
-    static const size_t larger[] = {0x7FFF, 0x8000, 0x8001, 0xFFFF, 0x10000, 0x18000, SIZE_MAX / 2, SIZE_MAX / 2 + 1,
+    static const size_t larger[] = {0x7FFE, 0x7FFF, 0x8000, 0x8001, 0xFFFE, 0xFFFF, 0x10000, 0x18000, SIZE_MAX / 2, SIZE_MAX / 2 + 1,
                                     SIZE_MAX - 0x8000, SIZE_MAX - 0x7FFF, SIZE_MAX - 1, SIZE_MAX};
-    for (size_t n = 0; n < 0x7FFF; n++) {
+    for (size_t n = 0; n <= 0x7FFE; n++) {
         hold(cf_row(n) == n, "cf_row of %zu", n);
         hold(cf_column(n) == 0x8000 + n, "cf_column of %zu", n);
     }
     for (size_t k = 0; k < sizeof larger / sizeof larger[0]; k++) {
-        size_t row = cf_row(larger[k]), column = cf_column(larger[k]);
-        hold(row >= 257 && row < 0x8000, "cf_row of %zu", larger[k]);
-        hold(column >= 0x8000 + 257, "cf_column of %zu", larger[k]);
+        hold(cf_row(larger[k]) == 0x7FFE, "cf_row of %zu", larger[k]);
+        hold(cf_column(larger[k]) == 0xFFFE, "cf_column of %zu", larger[k]);
+    }
+}
+
+/* A line that is named so is refused with 4, to be filled and as a flag: it is not taken for a line that there is, nor for none. */
+static void name_far_lines(void)
+{
+    static const size_t far[] = {0x7FFE, 0x7FFF, 0x8000, 0xFFFF, SIZE_MAX - 0x7FFF, SIZE_MAX};
+    for (size_t k = 0; k < 2 * sizeof far / sizeof far[0]; k++) {
+        uint8_t tile[16] = {0}, room[30] = {9, 8, 7};
+        uint64_t length;
+        size_t line = k % 2 == 0 ? cf_row(far[k / 2]) : cf_column(far[k / 2]);
+        unsigned no = cf_refusal(ask_fill(CF_NEW, 5, 2, tile, 16, cf_row(0), line));
+        hold(no == CF_BAD_PLACE, "line %zx hex, of %zu, is refused to be filled", line, far[k / 2]);
+        no = cf_refusal(ask_lay(CF_FLAGGED, 5, 2, 1, cf_row(0), line, tile, 16, room, 30, &length));
+        hold(no == CF_BAD_PLACE, "line %zx hex, of %zu, is refused as a flag", line, far[k / 2]);
     }
 }
 
 /* The lengths of the table in FORMATS.md. */
 static void know_the_lengths(void)
 {
-    static const size_t lengths[][3] = {{5, 16, 8},          {7, 36, 24},          {11, 100, 80},
-                                        {101, 10000, 9800}, {251, 62500, 62000}, {257, 65536, 65024}};
+    static const size_t lengths[][5] = {{5, 16, 8, 26, 30},
+                                        {7, 36, 24, 46, 50},
+                                        {11, 100, 80, 110, 114},
+                                        {101, 10000, 9800, 10010, 10014},
+                                        {251, 62500, 62000, 62510, 62514},
+                                        {257, 65536, 65024, 65546, 65550}};
     for (size_t k = 0; k < sizeof lengths / sizeof lengths[0]; k++) {
         hold(cf_tile_len(lengths[k][0]) == lengths[k][1], "cf_tile_len of %zu", lengths[k][0]);
         hold(cf_text_len(lengths[k][0]) == lengths[k][2], "cf_text_len of %zu", lengths[k][0]);
+        hold(cf_record_len(CF_NEW, lengths[k][0]) == lengths[k][3], "cf_record_len of a new tile, %zu", lengths[k][0]);
+        hold(cf_record_len(CF_OLD, lengths[k][0]) == lengths[k][3], "cf_record_len of an old tile, %zu", lengths[k][0]);
+        hold(cf_record_len(CF_FLAGGED, lengths[k][0]) == lengths[k][4], "cf_record_len with flags, %zu", lengths[k][0]);
+        hold(cf_record_len(3, lengths[k][0]) == lengths[k][3], "cf_record_len of another number, %zu", lengths[k][0]);
     }
 }
 
@@ -94,19 +116,19 @@ static void know_the_version(void)
     hold(10000 * major + 100 * minor + patch == CF_VERSION, "the version's text is that of its number");
 }
 
-/* Every number has words. Each refusal, and none at all, which is 0, has words of its own; 9, which no call says, has not. */
+/* Every number has words. Each refusal, and none at all, which is 0, has words of its own; 12, which no call says, has not. */
 static void have_words(void)
 {
-    static const unsigned known[] = {0, 1, 2, 3, 4, 5, 6, 7, 8, 10, 11};
-    static const unsigned others[] = {9, 12, 255, 266, 0xFFFF, 0x10001, 0x1000A, 0x7FFFFFFF, 0xFFFFFFFF};
-    const char *unknown = cf_refusal_words(9);
-    hold(strcmp(unknown, "no refusal has this number") == 0, "the refusal 9 has the words: %s", unknown);
-    for (size_t k = 0; k < sizeof known / sizeof known[0]; k++) {
-        const char *words = cf_refusal_words(known[k]);
-        hold(words != NULL && words[0] != 0, "the refusal %u has words", known[k]);
-        hold(strcmp(words, unknown) != 0, "the refusal %u is known", known[k]);
-        for (size_t other = 0; other < k; other++)
-            hold(strcmp(words, cf_refusal_words(known[other])) != 0, "the refusals %u and %u have different words", known[k], known[other]);
+    static const unsigned others[] = {12, 13, 255, 265, 266, 0xFFFF, 0x10001, 0x10009, 0x1000A, 0x7FFFFFFF, 0xFFFFFFFF};
+    const char *unknown = cf_refusal_words(12);
+    hold(strcmp(unknown, "no refusal has this number") == 0, "the refusal 12 has the words: %s", unknown);
+    hold(strcmp(cf_refusal_words(CF_TOO_SMALL), "the room is too small for the record") == 0, "the refusal 9 has other words");
+    for (unsigned known = 0; known <= CF_DIFFERS_ELSEWHERE; known++) {
+        const char *words = cf_refusal_words(known);
+        hold(words != NULL && words[0] != 0, "the refusal %u has words", known);
+        hold(strcmp(words, unknown) != 0, "the refusal %u is known", known);
+        for (unsigned other = 0; other < known; other++)
+            hold(strcmp(words, cf_refusal_words(other)) != 0, "the refusals %u and %u have different words", known, other);
     }
     for (size_t k = 0; k < sizeof others / sizeof others[0]; k++)
         hold(strcmp(cf_refusal_words(others[k]), unknown) == 0, "the refusal %u is not known", others[k]);
@@ -149,6 +171,7 @@ void cases_header(void)
     take_a_cell_apart();
     know_the_numbers();
     name_lines();
+    name_far_lines();
     know_the_lengths();
     know_the_version();
     have_words();

@@ -1,4 +1,5 @@
-/* Which sizes and slopes are taken, of a new tile and of an old one, by each call that is told them; and which numbers name a kind. */
+/* Which sizes and slopes are taken, of a new tile and of an old one, by each call that is told them or finds them in a record; and which
+ * numbers name a kind. */
 
 #include <stddef.h>
 #include <stdint.h>
@@ -7,6 +8,7 @@
 #include "cases.h"
 #include "differences.h"
 #include "made.h"
+#include "reels.h"
 
 /* Sizes and slopes are tried from 0 on up to here. */
 enum { LAST_TRIED = 300, LONGEST_TILE = (LAST_TRIED - 1) * (LAST_TRIED - 1) };
@@ -30,27 +32,38 @@ static void ask_tile_calls(size_t kind, size_t p, size_t l, size_t tile_len, siz
 }
 
 /* A reel that holds a record's header alone is refused with 1, 2 or 7: so each slope of each size is judged at little cost. */
-static uint64_t ask_header(size_t kind, size_t p, size_t l)
+static uint64_t ask_header(size_t which, size_t p, size_t l)
 {
-    uint8_t header[10] = {0xD5, 0x5D, (uint8_t)(p >> 8), (uint8_t)p, (uint8_t)(l >> 8), (uint8_t)l, 0, 0, 0, 1};
+    uint8_t header[FLAGGED_HEADER];
     struct found found;
-    if (kind == OLD) {
-        header[0] = 0x5D;
-        header[1] = 0xD5;
+    put_header(header, without_flags(mark_of(which), p, l, 1));
+    return ask_next(header, header_length(mark_of(which)), 0, &found);
+}
+
+/* Without a tile, laying is refused with 1, 2 or 3: the same at the same cost. */
+static uint64_t ask_lay_nothing(size_t which, size_t p, size_t l)
+{
+    uint8_t room[FLAGGED_HEADER] = {9, 8, 7};
+    uint64_t length;
+    return ask_lay(which, p, l, 1, NO_FLAG, NO_FLAG, tile, 0, room, sizeof room, &length);
+}
+
+/* The three records, by the numbers of SPEC 11.6. As the kind of a tile, that of the flagged one counts as new. */
+static void ask_records(size_t p, size_t l)
+{
+    for (size_t which = 0; which < SORTS; which++) {
+        ask_takes(which, p, l);
+        ask_header(which, p, l);
+        ask_lay_nothing(which, p, l);
     }
-    return ask_next(header, sizeof header, 0, &found);
 }
 
 static void each_number_as_size(void)
 {
     for (size_t p = 0; p <= LAST_TRIED; p++) {
         ask_house_slope(p);
-        for (size_t l = 0; l <= 3; l++) {
-            ask_header(NEW, p, l);
-            ask_header(OLD, p, l);
-            ask_takes(NEW, p, l);
-            ask_takes(OLD, p, l);
-        }
+        for (size_t l = 0; l <= 3; l++)
+            ask_records(p, l);
         if (p >= 3)
             ask_tile_calls(NEW, p, is_size(p) ? house_slope(p) : 2, tile_length(p), text_length(p));
         else
@@ -78,16 +91,18 @@ static size_t count_coprime(size_t n)
     return count;
 }
 
-/* All slopes of a size, and how many of them a kind takes. */
-static void each_slope_of_size(size_t kind, size_t p, size_t asked)
+/* All slopes of a size, and how many of them are taken for a record, and for the kind that has its number. */
+static void each_slope_of_size(size_t which, size_t p, size_t asked)
 {
-    size_t taken = 0, on_reels = 0;
+    size_t taken = 0, on_reels = 0, laid = 0;
     for (size_t l = 0; l <= LAST_TRIED; l++) {
-        taken += ask_takes(kind, p, l) == word_done();
-        on_reels += ask_header(kind, p, l) == word_refused(CUT_SHORT);
+        taken += ask_takes(which, p, l) == word_done();
+        on_reels += ask_header(which, p, l) == word_refused(CUT_SHORT);
+        laid += ask_lay_nothing(which, p, l) == word_refused(BAD_LENGTH);
     }
-    hold(taken == asked, "the size %zu: the peer takes %zu slopes for kind %zu", p, taken, kind);
-    hold(on_reels == asked, "the size %zu: the peer takes %zu slopes on reels for kind %zu", p, on_reels, kind);
+    hold(taken == asked, "the size %zu: the peer takes %zu slopes for kind %zu", p, taken, which);
+    hold(on_reels == asked, "the size %zu: the peer takes %zu slopes on reels for record %zu", p, on_reels, which);
+    hold(laid == asked, "the size %zu: the peer takes %zu slopes to lay record %zu", p, laid, which);
 }
 
 /* Of new tiles: of the p-1 powers of one slope those with an exponent coprime to p-1 serve. Of old ones: 2 to p-2. */
@@ -96,6 +111,7 @@ static void each_slope_of_each_size(void)
     for (size_t p = size_above(0); p != 0; p = size_above(p)) {
         each_slope_of_size(NEW, p, count_coprime(p - 1));
         each_slope_of_size(OLD, p, p - 3);
+        each_slope_of_size(FLAGGED, p, count_coprime(p - 1));
     }
 }
 

@@ -1,4 +1,4 @@
-/* The worked tiles and the reel of SPEC 10, and the house slopes of SPEC 2.3. All sides are asked, and the peer is held to what is written
+/* The worked tiles and the reels of SPEC 10, and the house slopes of SPEC 2.3. All sides are asked, and the peer is held to what is written
  * there: sides that were wrong in the same way would show here. */
 
 #include <stddef.h>
@@ -9,6 +9,7 @@
 #include "cases.h"
 #include "counterfrost.h"
 #include "differences.h"
+#include "walked.h"
 
 enum { TILE = 16, TEXT = 8 };
 
@@ -249,10 +250,10 @@ static void walked(void)
         unsigned kind, first;
         struct found found;
     } places[] = {
-        {0, CF_KIND_DONE, 0, {CF_NEW, 7, 5, 2, 10}},
-        {26, CF_KIND_DONE, 0, {CF_NEW, 8, 5, 2, 36}},
-        {52, CF_KIND_REFUSED, CF_CUT_SHORT, {0, 0, 0, 0, 52}},
-        {53, CF_KIND_END, 0, {0, 0, 0, 0, 0}},
+        {0, CF_KIND_DONE, 0, {CF_NEW, 7, 5, 2, CF_NO_FLAG, CF_NO_FLAG, 10}},
+        {26, CF_KIND_DONE, 0, {CF_NEW, 8, 5, 2, CF_NO_FLAG, CF_NO_FLAG, 36}},
+        {52, CF_KIND_REFUSED, CF_CUT_SHORT, {0, 0, 0, 0, CF_NO_FLAG, CF_NO_FLAG, 52}},
+        {53, CF_KIND_END, 0, {0, 0, 0, 0, CF_NO_FLAG, CF_NO_FLAG, 0}},
     };
     for (size_t k = 0; k < sizeof places / sizeof places[0]; k++) {
         struct found found;
@@ -260,12 +261,8 @@ static void walked(void)
         hold(said == answer(places[k].kind, places[k].first) && memcmp(&found, &places[k].found, sizeof found) == 0,
              "the reel of SPEC 10: the peer says otherwise at %zu", places[k].at);
     }
-    static const size_t far[] = {(size_t)1 << 63, SIZE_MAX - 26, SIZE_MAX - 9, SIZE_MAX - 1, SIZE_MAX};
-    struct found found;
-    for (size_t at = 0; at <= 60; at++)
-        ask_next(reel, sizeof reel, at, &found);
-    for (size_t k = 0; k < sizeof far / sizeof far[0]; k++)
-        ask_next(reel, sizeof reel, far[k], &found);
+    ask_each_place(reel, sizeof reel);
+    ask_far_places(reel, sizeof reel);
 }
 
 /* The reel's two tiles, as its listing has them: clean, and cell 2 3. Both are zeros then. */
@@ -282,6 +279,91 @@ static void reel_repaired(void)
         uint64_t said = ask_repair(CF_NEW, 5, 2, tile, TILE);
         hold(said == tiles[k].answer && memcmp(tile, zeros, TILE) == 0, "the reel of SPEC 10: the peer says otherwise of a tile's state");
     }
+}
+
+/* The reel with flags, as FORMATS has it: a line each for a header and for its tile. The last record has no tile. */
+static const uint8_t flagged_reel[190] = {
+    0xD5, 0x5E, 0x00, 0x05, 0x00, 0x02, 0x00, 0x00, 0x00, 0x09, 0x00, 0x00, 0x80, 0x00,
+    0x00, 0x00, 0x00, 0x00, 0x00, 0x01, 0x00, 0x00, 0x00, 0x00, 0x00, 0x00, 0x00, 0x00, 0x00, 0x00,
+    0xD5, 0x5E, 0x00, 0x05, 0x00, 0x02, 0x00, 0x00, 0x00, 0x0A, 0xFF, 0xFF, 0x00, 0x00,
+    0x01, 0x01, 0x00, 0x00, 0x00, 0x00, 0x00, 0x00, 0x00, 0x00, 0x00, 0x00, 0x00, 0x00, 0x00, 0x00,
+    0xD5, 0x5E, 0x00, 0x05, 0x00, 0x02, 0x00, 0x00, 0x00, 0x0B, 0x80, 0x03, 0xFF, 0xFF,
+    0x00, 0x00, 0x00, 0x00, 0x00, 0x00, 0x00, 0x00, 0x00, 0x00, 0x00, 0x00, 0x00, 0x00, 0x00, 0x00,
+    0xD5, 0x5E, 0x00, 0x05, 0x00, 0x02, 0x00, 0x00, 0x00, 0x0C, 0xFF, 0xFF, 0xFF, 0xFF,
+    0x00, 0x00, 0x00, 0x00, 0x00, 0x00, 0x00, 0x00, 0x00, 0x00, 0x00, 0x01, 0x00, 0x00, 0x00, 0x00,
+    0xD5, 0x5D, 0x00, 0x05, 0x00, 0x02, 0x00, 0x00, 0x00, 0x0D,
+    0x01, 0x01, 0x00, 0x00, 0x00, 0x00, 0x00, 0x00, 0x00, 0x00, 0x00, 0x00, 0x00, 0x00, 0x00, 0x00,
+    0xD5, 0x5E, 0x00, 0x05, 0x00, 0x02, 0x00, 0x00, 0x00, 0x0E, 0x00, 0x00, 0x80, 0x00,
+    0x00, 0x00, 0x00, 0x00, 0x00, 0x00, 0x00, 0x00, 0x00, 0x00, 0x00, 0x01, 0x00, 0x00, 0x00, 0x00,
+    0xD5, 0x5E, 0x00, 0x05, 0x00, 0x02, 0x00, 0x00, 0x00, 0x0F, 0x00, 0x04, 0xFF, 0xFF,
+};
+
+/* Its records, by where they begin: what is answered there, and what their tiles become when they are restored (SPEC 7.6). Those that are
+ * listed as filled are done. */
+static const struct flagged_record {
+    size_t at;
+    struct found found;
+    unsigned kind, first, second;
+    uint8_t restored[TILE];
+} flagged_records[] = {
+    {0, {CF_NEW, 9, 5, 2, 0, 0x8000, 14}, CF_KIND_DONE, 0, 0, {0, 1, 0, 1, 1, 1, 0, 0, 1, 0, 0, 0, 1, 0, 0, 0}},
+    {30, {CF_NEW, 10, 5, 2, CF_NO_FLAG, 0, 44}, CF_KIND_DONE, 0, 0, {0}},
+    {60, {CF_NEW, 11, 5, 2, 0x8003, CF_NO_FLAG, 74}, CF_KIND_DONE, 0, 0, {0}},
+    {90, {CF_NEW, 12, 5, 2, CF_NO_FLAG, CF_NO_FLAG, 104}, CF_KIND_CELL, 2, 3, {0}},
+    {120, {CF_NEW, 13, 5, 2, CF_NO_FLAG, CF_NO_FLAG, 130}, CF_KIND_ROW, 0, 0, {0}},
+    {146, {CF_NEW, 14, 5, 2, 0, 0x8000, 160}, CF_KIND_REFUSED, CF_DAMAGED, 0, {[2 * 4 + 3] = 1}},
+};
+enum { FLAGGED_RECORDS = sizeof flagged_records / sizeof flagged_records[0] };
+
+/* The flag of the last record is row 4, which a tile of size 5 does not have. */
+enum { WRONG_FLAG_AT = 176 };
+
+/* It is asked at every offset, and far behind its end. */
+static void flagged_walked(void)
+{
+    static const struct found none = {0, 0, 0, 0, CF_NO_FLAG, CF_NO_FLAG, WRONG_FLAG_AT};
+    struct found found;
+    for (size_t k = 0; k < FLAGGED_RECORDS; k++) {
+        uint64_t said = ask_next(flagged_reel, sizeof flagged_reel, flagged_records[k].at, &found);
+        hold(said == answer(CF_KIND_DONE, 0) && memcmp(&found, &flagged_records[k].found, sizeof found) == 0,
+             "the reel with flags of SPEC 10: the peer says otherwise at %zu", flagged_records[k].at);
+    }
+    uint64_t said = ask_next(flagged_reel, sizeof flagged_reel, WRONG_FLAG_AT, &found);
+    hold(said == answer(CF_KIND_REFUSED, CF_BAD_PLACE) && memcmp(&found, &none, sizeof found) == 0,
+         "the reel with flags of SPEC 10: the peer takes row 4");
+    hold(walk(flagged_reel, sizeof flagged_reel) == WRONG_FLAG_AT, "the reel with flags of SPEC 10: the peer walks otherwise");
+    ask_each_place(flagged_reel, sizeof flagged_reel);
+    ask_far_places(flagged_reel, sizeof flagged_reel);
+}
+
+/* Its tiles, as its listing has them. */
+static void flagged_restored(void)
+{
+    for (size_t k = 0; k < FLAGGED_RECORDS; k++) {
+        const struct flagged_record *record = &flagged_records[k];
+        uint8_t tile[TILE];
+        memcpy(tile, &flagged_reel[record->found.offset], TILE);
+        uint64_t said = restore(&record->found, tile);
+        hold(said == answer(record->kind, record->first) + record->second && memcmp(tile, record->restored, TILE) == 0,
+             "the reel with flags of SPEC 10: the peer restores tile %u otherwise", (unsigned)record->found.number);
+    }
+}
+
+/* Its records are laid from what is answered there, one behind the other, and are the reel's bytes again; the last one is refused. */
+static void flagged_laid(void)
+{
+    uint8_t laid[sizeof flagged_reel] = {0};
+    uint64_t length, said;
+    for (size_t k = 0; k < FLAGGED_RECORDS; k++) {
+        const struct found *found = &flagged_records[k].found;
+        size_t at = flagged_records[k].at, which = found->offset - at == 14 ? CF_FLAGGED : CF_NEW;
+        said = ask_lay(which, 5, 2, (uint32_t)found->number, found->first, found->second, &flagged_reel[found->offset], TILE, &laid[at],
+                       sizeof laid - at, &length);
+        hold(said == answer(CF_KIND_DONE, 0) && memcmp(laid, flagged_reel, at + length) == 0,
+             "the reel with flags of SPEC 10: the peer lays tile %u otherwise", (unsigned)found->number);
+    }
+    said = ask_lay(CF_FLAGGED, 5, 2, 15, 4, CF_NO_FLAG, flagged_reel, TILE, &laid[WRONG_FLAG_AT], sizeof laid - WRONG_FLAG_AT, &length);
+    hold(said == answer(CF_KIND_REFUSED, CF_BAD_PLACE), "the reel with flags of SPEC 10: the peer lays row 4");
 }
 
 /* The house slopes as SPEC 2.3 lists them, and no other sizes. */
@@ -323,5 +405,8 @@ void cases_worked(void)
     old_recovered();
     walked();
     reel_repaired();
+    flagged_walked();
+    flagged_restored();
+    flagged_laid();
     house_slopes();
 }

@@ -1,5 +1,5 @@
-/* Calls the library and the peer on the same input, about a million times, and compares. Prints each difference, up to twenty, and a
- * closing line. The exit status is 0 only where nothing differed, and enough was asked. */
+/* Calls the library and the peer on the same input, more than a million and a half times, and compares. Prints each difference, up to
+ * twenty, and a closing line. The exit status is 0 only where nothing differed, and enough was asked. */
 
 #include <stddef.h>
 
@@ -26,6 +26,9 @@ int main(void)
         {"the margin", cases_margin},
         {"correction sheets", cases_sheet},
         {"reels", cases_reel},
+        {"flags on reels", cases_flags},
+        {"restoring by flags", cases_restore},
+        {"laying records", cases_lay},
         {"edges, and two faults at once", cases_edges},
     };
     for (size_t k = 0; k < sizeof subjects / sizeof subjects[0]; k++) {

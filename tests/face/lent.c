@@ -8,7 +8,13 @@
 
 enum { ALIGNMENTS = 16 };
 
-static const uint64_t number_pattern = UINT64_C(0xA5C396F05A3C690F);
+#define PATTERN UINT64_C(0xA5C396F05A3C690F)
+
+static const uint64_t number_guard[2] = {PATTERN, ~PATTERN};
+
+/* What a number holds before it is answered, one after the other. These are five, and for a question 2, 3 or 14 numbers are lent: so each
+ * of them comes to hold each value. */
+static const uint64_t held_before[] = {PATTERN, 0, ~PATTERN, 0xFFFF, UINT64_MAX};
 
 /* No two neighbours are alike, and none is 0: a guard that is moved, cleared or filled shows. */
 static uint8_t guard_byte(size_t k)
@@ -61,14 +67,16 @@ int guard_touched(const struct lent *lent, struct touched *touched)
 
 struct lent_number lend_number(void)
 {
-    uint64_t pattern = number_pattern;
-    struct lent_number number = {{pattern, ~pattern}, pattern, {~pattern, pattern}};
+    static size_t turn = 0;
+    struct lent_number number;
+    turn = (turn + 1) % (sizeof held_before / sizeof held_before[0]);
+    number.value = held_before[turn];
+    memcpy(number.before, number_guard, sizeof number.before);
+    memcpy(number.behind, number_guard, sizeof number.behind);
     return number;
 }
 
 int number_guard_touched(const struct lent_number *number)
 {
-    struct lent_number whole = lend_number();
-    return memcmp(number->before, whole.before, sizeof whole.before) != 0 ||
-           memcmp(number->behind, whole.behind, sizeof whole.behind) != 0;
+    return memcmp(number->before, number_guard, sizeof number_guard) != 0 || memcmp(number->behind, number_guard, sizeof number_guard) != 0;
 }

@@ -35,7 +35,8 @@ struct lent_number {
     uint64_t behind[2];
 };
 
-/* The value holds a pattern too, so that one left as it was is seen. */
+/* The value is a pattern too, so that one left as it was is seen. From one to the next it changes: to the pattern's opposite, to 0, to FFFF
+ * hex and to all ones, so that one that depends on what was there is seen too. */
 struct lent_number lend_number(void);
 int number_guard_touched(const struct lent_number *number);
 

@@ -1,4 +1,4 @@
-/* The peer: eleven calls of counterfrost.h once more, under names of their own, with the same parameters and the same answers.
+/* The peer: twelve calls of counterfrost.h once more, under names of their own, with the same parameters and the same answers.
  *
  * What they do is written from docs/SPEC.md and docs/FORMATS.md alone; a comment "SPEC 4.3" names the section. Nothing is found in the way
  * in which the library finds it. That a tile is good is 2p equations, one for each diagonal, and the peer writes these down and solves them
@@ -31,6 +31,10 @@ uint64_t peer_correct(size_t kind, size_t p, size_t l, uint8_t *tile, size_t til
 
 /* SPEC 7.2, and 11.2 for the numbers. */
 uint64_t peer_next(const uint8_t *reel, size_t reel_len, size_t at, uint64_t *kind, uint64_t *number, uint64_t *p, uint64_t *l,
-                   uint64_t *offset);
+                   uint64_t *first, uint64_t *second, uint64_t *offset);
+
+/* SPEC 7.7, 11.6 for which record it is, and 11.2 for the number. */
+uint64_t peer_lay(size_t which, size_t p, size_t l, uint32_t number, size_t first, size_t second, const uint8_t *tile, size_t tile_len,
+                  uint8_t *room, size_t room_len, uint64_t *length);
 
 #endif

@@ -1,4 +1,4 @@
-/* Sizes, slopes, lengths and answers, from SPEC 2, 3, 9 and 11: see peer_rules.h. */
+/* Sizes, slopes, lengths, lines and answers, from SPEC 2, 3, 9 and 11: see peer_rules.h. */
 
 #include "peer_rules.h"
 
@@ -48,6 +48,12 @@ size_t tile_length(size_t p)
 size_t text_length(size_t p)
 {
     return (p - 1) * (p - 3);
+}
+
+/* SPEC 3.4 and 3.5: the rows are 0 to p-2, and so are the columns, which are named from 8000 hex on. */
+int has_line(size_t p, size_t name)
+{
+    return (name < 0x8000 ? name : name - 0x8000) <= p - 2;
 }
 
 /* SPEC 2.4, with 2.5 for what each kind takes. */

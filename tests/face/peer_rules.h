@@ -1,5 +1,5 @@
-/* What the peer's files share: sizes and slopes (SPEC 2), lengths (SPEC 3), the numbers for no (SPEC 9), and the word in which a call
- * answers (SPEC 11.1). */
+/* What the peer's files share: sizes and slopes (SPEC 2), lengths and lines (SPEC 3), the numbers for no (SPEC 9), and the word in which a
+ * call answers (SPEC 11.1). */
 
 #ifndef PEER_RULES_H
 #define PEER_RULES_H
@@ -10,7 +10,7 @@
 /* SPEC 2.1, 3.1 and 3.2. */
 enum { LARGEST_SIZE = 257, LARGEST_TILE = 256 * 256, LARGEST_TEXT = 256 * 254 };
 
-/* SPEC 9.1, where 9 is no refusal. ACCEPTED is the judgement that none of them is to be said. */
+/* SPEC 9.1. ACCEPTED is the judgement that none of them is to be said. */
 enum refusal {
     ACCEPTED,
     BAD_SIZE,
@@ -21,12 +21,20 @@ enum refusal {
     BAD_MARK,
     CUT_SHORT,
     DOUBTFUL,
-    NOT_GOOD = 10,
-    DIFFERS_ELSEWHERE = 11
+    TOO_SMALL,
+    NOT_GOOD,
+    DIFFERS_ELSEWHERE
 };
 
 /* SPEC 11.5: the number of each kind (SPEC 2.5). Every other number counts as new. */
 enum { NEW = 0, OLD = 1 };
+
+/* SPEC 11.6: which record is to be laid. Those without flags have the number of their tile's kind; this is the third. Every other number
+ * counts as that of a new tile without flags. */
+enum { FLAGGED = 2, SORTS = 3 };
+
+/* SPEC 3.5: the flag that tells of no line. */
+enum { NO_FLAG = 0xFFFF };
 
 /* SPEC 2.1. */
 int is_size(size_t p);
@@ -37,6 +45,9 @@ int allows(size_t p, size_t l);
 /* SPEC 3.1 and 3.2, for a size p. */
 size_t tile_length(size_t p);
 size_t text_length(size_t p);
+
+/* SPEC 3.4, for a size p and a line that is named by a number (SPEC 3.5). */
+int has_line(size_t p, size_t name);
 
 /* SPEC 2.4, a kind, p and l judged together: 1 or 2. */
 enum refusal judge_slope(size_t kind, size_t p, size_t l);

@@ -142,7 +142,7 @@ uint64_t peer_repair(size_t kind, size_t p, size_t l, uint8_t *tile, size_t tile
     return name;
 }
 
-/* SPEC 11.3: rows below 8000 hex, columns from there on. */
+/* SPEC 3.5: rows below 8000 hex, columns from there on. */
 static struct strip named(size_t name)
 {
     struct strip row = {0, name}, column = {1, name - 0x8000};
@@ -155,7 +155,7 @@ uint64_t peer_fill(size_t kind, size_t p, size_t l, uint8_t *tile, size_t tile_l
     enum refusal refusal = judge_tile(kind, p, l, tile_len);
     if (refusal != ACCEPTED)
         return word_refused(refusal);
-    if (named(first).number > p - 2 || named(second).number > p - 2)
+    if (!has_line(p, first) || !has_line(p, second))
         return word_refused(BAD_PLACE);
     return word_solved(fill_strips(p, l, tile, named(first), named(second)));
 }
@@ -191,7 +191,7 @@ uint64_t peer_judge(size_t p, size_t l, const uint8_t *scan, size_t scan_len, co
     enum refusal refusal = judge_two_tiles(p, l, scan_len, restored_len);
     if (refusal != ACCEPTED)
         return word_refused(refusal);
-    if (named(first).number > p - 2 || named(second).number > p - 2)
+    if (!has_line(p, first) || !has_line(p, second))
         return word_refused(BAD_PLACE);
     struct given_tile given;
     give_tile(&given, p, l, restored);

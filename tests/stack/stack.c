@@ -3,8 +3,8 @@
  *
  * What is counted: all from the caller's stack pointer, as it stands before anything is pushed for the call, down to the lowest byte that
  * was changed. So the return address counts, which is 8 bytes, and so do the arguments past the sixth, which the caller pushes, 16 bytes
- * for one or two. The caller's own frame does not. What memcpy, memmove and memset change is counted as the call's. Bytes that are set
- * aside below the lowest changed one, and never written, are not seen. */
+ * for every two or a last one. The caller's own frame does not. What memcpy, memmove and memset change is counted as the call's. Bytes that
+ * are set aside below the lowest changed one, and never written, are not seen. */
 
 #include <stddef.h>
 #include <stdint.h>
@@ -16,21 +16,23 @@
 #include "doubt.h"
 #include "made.h"
 #include "own_stack.h"
+#include "reels.h"
 #include "sheets.h"
 
-/* The two sizes that are measured, a row and a column of text that both have, and the length of a header in a reel. */
-enum { LARGE = LARGEST_SIZE, SMALL = 5, ROW = 1, COLUMN = 1, REEL_HEADER = 10 };
+/* The two sizes that are measured, and a row and a column of text that both have. */
+enum { LARGE = LARGEST_SIZE, SMALL = 5, ROW = 1, COLUMN = 1 };
 
-/* What the calls are told and lent. What they find in the tile is the scan, which is laid there before each. */
+/* What the calls are told and lent. A record is laid into the reel. What they find in the tile is the scan, which is laid there before
+ * each. */
 static struct told {
-    size_t kind, p, l, tile_len, text_len, first, second, sheet_len, reel_len;
+    size_t kind, p, l, tile_len, text_len, first, second, sheet_len, reel_len, which;
 } told;
 
 static struct chance chance;
 static struct sheet sheet;
 static uint8_t good[LARGEST_TILE], scan[LARGEST_TILE], tile[LARGEST_TILE], restored[LARGEST_TILE], cross[LARGEST_TILE];
-static uint8_t text[LARGEST_TEXT], reel[REEL_HEADER + LARGEST_TILE];
-static uint64_t numbers[5], said;
+static uint8_t text[LARGEST_TEXT], reel[FLAGGED_HEADER + LARGEST_TILE];
+static uint64_t numbers[7], said;
 
 /* Each call is asked by a function of its own, which asks the library, or an empty call in its place: it takes the same arguments and does
  * nothing. One and the same instruction calls both; volatile keeps the compiler from telling them apart. */
@@ -58,15 +60,19 @@ CALL(judge, (size_t p, size_t l, const uint8_t *of, size_t of_len, const uint8_t
      told.l, tile, told.tile_len, restored, told.tile_len, told.first, told.second)
 CALL(correct, (KIND_P_L, uint8_t *of, size_t of_len, const uint8_t *by, size_t by_len, uint64_t *number), TOLD, tile, told.tile_len,
      sheet.bytes, told.sheet_len, &numbers[0])
-CALL(next, (const uint8_t *of, size_t of_len, size_t at, uint64_t *kind, uint64_t *number, uint64_t *p, uint64_t *l, uint64_t *offset),
-     reel, told.reel_len, 0, &numbers[0], &numbers[1], &numbers[2], &numbers[3], &numbers[4])
+CALL(next, (const uint8_t *of, size_t of_len, size_t at, uint64_t *kind, uint64_t *number, uint64_t *p, uint64_t *l, uint64_t *first,
+            uint64_t *second, uint64_t *offset), reel, told.reel_len, 0, &numbers[0], &numbers[1], &numbers[2], &numbers[3], &numbers[4],
+     &numbers[5], &numbers[6])
+CALL(lay, (size_t which, size_t p, size_t l, uint32_t number, size_t first, size_t second, const uint8_t *of, size_t of_len, uint8_t *to,
+           size_t to_len, uint64_t *length), told.which, told.p, told.l, 1, told.first, told.second, tile, told.tile_len, reel,
+     told.reel_len, &numbers[0])
 CALL(house_slope, (size_t p), told.p)
 CALL(takes, (KIND_P_L), TOLD)
 CALL(version, (void), )
 #pragma GCC diagnostic pop
 
 /* The calls, with how many arguments they have, and the most that each may hold: its goal, in bytes. */
-enum call { WRITE, READ, REPAIR, INSPECT, RECOVER, FILL, JUDGE, CORRECT, NEXT, HOUSE_SLOPE, TAKES, VERSION, CALLS };
+enum call { WRITE, READ, REPAIR, INSPECT, RECOVER, FILL, JUDGE, CORRECT, NEXT, LAY, HOUSE_SLOPE, TAKES, VERSION, CALLS };
 
 static const struct {
     const char *name;
@@ -81,7 +87,8 @@ static const struct {
     [FILL] = {"fill", ask_fill, 7, 2048},
     [JUDGE] = {"judge", ask_judge, 8, 1280},
     [CORRECT] = {"correct", ask_correct, 8, 2048},
-    [NEXT] = {"next", ask_next, 8, 512},
+    [NEXT] = {"next", ask_next, 10, 512},
+    [LAY] = {"lay", ask_lay, 11, 512},
     [HOUSE_SLOPE] = {"house_slope", ask_house_slope, 1, 512},
     [TAKES] = {"takes", ask_takes, 3, 512},
     [VERSION] = {"version", ask_version, 0, 512},
@@ -100,10 +107,17 @@ static void lay_scan(void)
     memcpy(tile, scan, sizeof tile);
 }
 
-/* How deep a call goes. An empty one goes down to its return address; what this and the pushed arguments take is known, on x86-64. */
+/* What is pushed for a call, on x86-64: the arguments past the sixth, 8 bytes each, and where their number is odd 8 bytes more. */
+static size_t pushed_for(enum call call)
+{
+    size_t arguments = calls[call].arguments;
+    return arguments > 6 ? (arguments - 6 + 1) / 2 * 16 : 0;
+}
+
+/* How deep a call goes. An empty one goes down to its return address; what this and the pushed arguments take is known. */
 static size_t depth_of(enum call call)
 {
-    const size_t return_address = 8, pushed = calls[call].arguments > 6 ? 16 : 0;
+    const size_t return_address = 8, pushed = pushed_for(call);
     is_empty = 1;
     size_t by_empty_call = changed_on_own_stack(lay_scan, calls[call].ask);
     is_empty = 0;
@@ -279,32 +293,103 @@ static void corrected(void)
     measure(CORRECT, "a sheet that is cut", word_refused(CUT_SHORT));
 }
 
-/* A reel of one record with this mark, size and slope, which ends after so many bytes. */
-static void stands(size_t mark, size_t p, size_t l, size_t length, const char *way, uint64_t expected)
+/* A reel of one record with this header, which ends after so many bytes. */
+static void stands(struct header header, size_t length, const char *way, uint64_t expected)
 {
-    const size_t header[] = {mark, p, l, 0, 1};
-    for (size_t k = 0; k < REEL_HEADER; k++)
-        reel[k] = (uint8_t)(k % 2 == 0 ? header[k / 2] >> 8 : header[k / 2]);
+    put_header(reel, header);
     told.reel_len = length;
     measure(NEXT, way, expected);
 }
 
-static void walked(void)
+/* What a record of every sort may be, flags aside. */
+static void walked(size_t mark)
 {
-    size_t mark = told.kind == OLD ? 0x5DD5 : 0xD55D, p = told.p, l = told.l, whole = REEL_HEADER + tile_length(p);
-    stands(mark, p, l, whole, "a tile", word_done());
-    stands(mark, p, l, whole - 1, "a tile that is cut", word_refused(CUT_SHORT));
-    stands(mark, p, l, REEL_HEADER - 1, "a header that is cut", word_refused(CUT_SHORT));
-    stands(mark, p, l, 0, "the end", word_end());
-    stands(0xC33C, p, l, whole, "a bad mark", word_refused(BAD_MARK));
-    stands(mark, p, 1, whole, "a bad slope", word_refused(BAD_SLOPE));
-    stands(mark, 9, l, whole, "a bad size", word_refused(BAD_SIZE));
+    size_t p = told.p, l = told.l, header = header_length(mark), whole = header + tile_length(p);
+    stands(without_flags(mark, p, l, 1), whole, "a tile", word_done());
+    stands(without_flags(mark, p, l, 1), whole - 1, "a tile that is cut", word_refused(CUT_SHORT));
+    stands(without_flags(mark, p, l, 1), header - 1, "a header that is cut", word_refused(CUT_SHORT));
+    stands(without_flags(mark, p, l, 1), HEADER - 1, "a header that is cut to less than ten bytes", word_refused(CUT_SHORT));
+    stands(without_flags(mark, p, l, 1), 0, "the end", word_end());
+    stands(without_flags(0xC33C, p, l, 1), whole, "a bad mark", word_refused(BAD_MARK));
+    stands(without_flags(mark, p, 1, 1), whole, "a bad slope", word_refused(BAD_SLOPE));
+    stands(without_flags(mark, 9, l, 1), whole, "a bad size", word_refused(BAD_SIZE));
+}
+
+/* A record with these flags, as it is read and as it is laid. */
+static void with_flags(size_t first, size_t second, const char *way, uint64_t expected)
+{
+    struct header header = {FLAGGED_MARK, told.p, told.l, 1, told.first = first, told.second = second};
+    stands(header, FLAGGED_HEADER + tile_length(told.p), way, expected);
+    measure(LAY, way, expected);
+}
+
+static void flagged(void)
+{
+    size_t row = row_name(ROW), column = column_name(COLUMN), last = told.p - 2;
+    told.which = FLAGGED;
+    with_flags(NO_FLAG, NO_FLAG, "no flag", word_done());
+    with_flags(row, NO_FLAG, "a first flag, a row", word_done());
+    with_flags(NO_FLAG, column, "a second flag, a column", word_done());
+    with_flags(column, row, "two flags", word_done());
+    with_flags(row_name(last + 1), column, "a first flag that is no row", word_refused(BAD_PLACE));
+    with_flags(column_name(last + 1), row, "a first flag that is no column", word_refused(BAD_PLACE));
+    with_flags(row, row_name(last + 1), "a second flag that is no row", word_refused(BAD_PLACE));
+    with_flags(NO_FLAG, column_name(last + 1), "a second flag that is no column", word_refused(BAD_PLACE));
+}
+
+/* What comes of laying a record by its number (SPEC 11.6), flags aside. */
+static void laid(size_t which)
+{
+    size_t p = told.p, l = told.l, whole = (which == FLAGGED ? FLAGGED_HEADER : HEADER) + tile_length(p);
+    told.which = which;
+    told.first = told.second = NO_FLAG;
+    told.reel_len = whole;
+    measure(LAY, "a record", word_done());
+    told.reel_len--;
+    measure(LAY, "a room that is too small", word_refused(TOO_SMALL));
+    told.reel_len = 0;
+    measure(LAY, "no room", word_refused(TOO_SMALL));
+    told.p = 9;
+    measure(LAY, "a bad size", word_refused(BAD_SIZE));
+    told.p = p;
+    told.l = 1;
+    measure(LAY, "a bad slope", word_refused(BAD_SLOPE));
+    told.l = l;
+    told.tile_len--;
+    measure(LAY, "a bad length", word_refused(BAD_LENGTH));
+    told.tile_len++;
+}
+
+/* A record that has no place for a flag is given one, in either place. */
+static void laid_without_a_place(size_t which)
+{
+    told.which = which;
+    told.first = row_name(ROW);
+    measure(LAY, "a first flag without a place", word_refused(BAD_PLACE));
+    told.first = NO_FLAG;
+    told.second = column_name(COLUMN);
+    measure(LAY, "a second flag without a place", word_refused(BAD_PLACE));
+}
+
+/* The records that a tile of this kind can have. 3 names none of them, and counts as the number of a new tile's. */
+static void walked_and_laid(void)
+{
+    walked(mark_of(told.kind));
+    laid(told.kind);
+    laid_without_a_place(told.kind);
+    if (told.kind == OLD)
+        return;
+    walked(FLAGGED_MARK);
+    laid(FLAGGED);
+    laid(3);
+    laid_without_a_place(3);
+    flagged();
 }
 
 /* Every way of every call, with this kind, size and slope. */
 static void every_way(size_t kind, size_t p, size_t l)
 {
-    const struct told begin = {kind, p, l, tile_length(p), text_length(p), row_name(ROW), column_name(COLUMN), 0, 0};
+    const struct told begin = {kind, p, l, tile_length(p), text_length(p), row_name(ROW), column_name(COLUMN), 0, 0, kind};
     told = begin;
     make_tile(&chance, p, l, good);
     asked_written_and_read();
@@ -315,8 +400,8 @@ static void every_way(size_t kind, size_t p, size_t l)
     }
     filled_and_judged();
     corrected();
-    walked();
     refused_early();
+    walked_and_laid();
 }
 
 /* New tiles at the house slope and another, old ones at the house slope and one that is not allowed, where the size has such a slope. */
