@@ -1,27 +1,32 @@
 """The calls of include/counterfrost.h for Python, by ctypes, from the shared library.
 
 Texts, sheets and reels come in as bytes, and tiles that a call may change as bytearrays; a refusal is raised as Refused. A call that is
-told a size and a slope is told the kind of the tile first, NEW or OLD; judge, which takes new tiles alone, is not.
+told a size and a slope is told the kind of the tile first, NEW or OLD; judge, which takes new tiles alone, is not. A line is named by row
+or column, and so is a flag, which is None where no line was lost.
 """
 
 import ctypes
 import platform
-from ctypes import byref, c_size_t, c_uint8, c_uint64
+from ctypes import byref, c_size_t, c_uint8, c_uint32, c_uint64
 
-NAMED_AS = "libcounterfrost.so.0.6"  # the calls below are those of this version
+NAMED_AS = "libcounterfrost.so.0.7"  # the calls below are those of this version
 
 NEW = 0  # takes the slopes that are allowed at its size
 OLD = 1  # takes every slope from 2 to p-2; where the slope is not allowed, a repair or a filling may be doubtful, which is refused 8
+FLAGGED = 2  # not a kind of tile, but the record of a new one with two flags, for lay
+
+NO_FLAG = 0xFFFF  # how C says None
 
 WORDS = {
     1: "the size is not one of the primes between 5 and 257",
     2: "the slope cannot be used at this size by a tile of this kind",
     3: "a tile or a text does not have the length of this size",
-    4: "the tile does not have that line, or its text that place",
+    4: "the tile does not have that line, its text that place, or the record a place for that flag",
     5: "the tile is damaged: no such repair exists, or it has to be repaired before it is read",
     6: "a record does not begin with a mark",
     7: "a sheet or a reel ends within a record",
     8: "the tile is doubtful: two different good tiles would do, and nothing tells which was printed",
+    9: "the room is too small for the record",
     10: "the restored tile is not good",
     11: "the restored tile differs from the scan outside the named lines",
 }
@@ -37,13 +42,13 @@ class Refused(Exception):
 
 
 def row(number):
-    """A row, for fill and judge."""
-    return min(number, 0x7FFF)
+    """A row, for fill and judge, and as a flag. One that is no number of a line is named as 7ffe hex: no tile has it, and it is refused 4."""
+    return number if 0 <= number < 0x7FFE else 0x7FFE
 
 
 def column(number):
-    """A column, for fill and judge."""
-    return 0x8000 + min(number, 0x7FFF)
+    """A column, likewise."""
+    return 0x8000 + row(number)
 
 
 def correction(row, column, was, now):
@@ -57,6 +62,10 @@ def tile_length(p):
 
 def text_length(p):
     return (p - 1) * (p - 3)
+
+
+def record_length(which, p):
+    return (14 if which == FLAGGED else 10) + tile_length(p)
 
 
 class Counterfrost:
@@ -139,10 +148,11 @@ class Counterfrost:
         return told.value
 
     def tiles(self, reel):
-        """The tiles of a reel of any length, one after the other: kind, number, p, l, and a copy of the tile, which repair may change."""
+        """The tiles of a reel of any length, one after the other: kind, number, p, l, the first and the second flag, and a copy of the
+        tile, which fill or repair may change. A tile with a flag is to be filled; a lone flag, in either place, is a line to name twice."""
         at = 0
         while True:
-            numbers = kind, number, p, l, offset = [c_uint64() for _ in range(5)]
+            numbers = kind, number, p, l, first, second, offset = [c_uint64() for _ in range(7)]
             try:
                 answered, *_ = self._ask("cf_next", *_read_only(reel), _number(at), *map(byref, numbers))
             except Refused as no:
@@ -150,7 +160,19 @@ class Counterfrost:
             if answered == 7:
                 return
             at = offset.value + tile_length(p.value)
-            yield kind.value, number.value, p.value, l.value, bytearray(reel[offset.value : at])
+            flags = (None if flag.value == NO_FLAG else flag.value for flag in (first, second))
+            yield kind.value, number.value, p.value, l.value, *flags, bytearray(reel[offset.value : at])
+
+    def lay(self, which, p, l, number, tile, first=None, second=None):
+        """The record of a tile, for a reel. It is FLAGGED, or NEW or OLD, which have no place for a flag. The tile may be hurt."""
+        if not 0 <= number < 2**32:
+            raise ValueError(f"the number of a tile has four bytes, which cannot say {number}")
+        self.check(which, p, l)
+        room = bytearray(record_length(which, p))
+        flags = (_number(NO_FLAG if flag is None else flag) for flag in (first, second))
+        told = [_number(which), _number(p), _number(l), c_uint32(number), *flags]
+        self._ask("cf_lay", *told, *_read_only(tile), *_lent(room), byref(c_uint64()))
+        return bytes(room)
 
 
 def _hurt(answered, first, second):

@@ -20,7 +20,12 @@ mod c {
             kind: usize, p: usize, l: usize, tile: *mut u8, tile_len: usize, sheet: *const u8, sheet_len: usize, count_or_offset: &mut u64,
         ) -> u64;
         pub fn cf_next(
-            reel: *const u8, reel_len: usize, at: usize, kind: &mut u64, number: &mut u64, p: &mut u64, l: &mut u64, offset: &mut u64,
+            reel: *const u8, reel_len: usize, at: usize, kind: &mut u64, number: &mut u64, p: &mut u64, l: &mut u64, first: &mut u64,
+            second: &mut u64, offset: &mut u64,
+        ) -> u64;
+        pub fn cf_lay(
+            which: usize, p: usize, l: usize, number: u32, first: usize, second: usize, tile: *const u8, tile_len: usize, room: *mut u8,
+            room_len: usize, length: &mut u64,
         ) -> u64;
     }
 }
@@ -43,6 +48,9 @@ pub struct Refused {
 /// The refusal of an old tile for which two different good tiles would do.
 pub const DOUBTFUL: u16 = 8;
 
+/// The refusal of a room that is shorter than the record to be laid there.
+pub const TOO_SMALL: u16 = 9;
+
 /// The refusals of a restored tile: it is not good; it differs from the scan outside the named lines.
 pub const NOT_GOOD: u16 = 10;
 pub const DIFFERS_ELSEWHERE: u16 = 11;
@@ -61,14 +69,32 @@ pub enum Hurt {
     Line(Line),
 }
 
-/// A tile on a reel: its kind, number, size and slope, and the offset where its bytes begin.
+/// A record of a reel: that of a new tile or of an old one, without flags; or that of a new tile with two flags, each of which is a line
+/// that the scanner lost, or none.
+#[derive(Clone, Copy, Debug, PartialEq, Eq)]
+pub enum Record {
+    New,
+    Old,
+    Flagged(Option<Line>, Option<Line>),
+}
+
+/// A tile on a reel: its kind, number, size and slope, its two flags, and the offset where its bytes begin.
 #[derive(Debug, PartialEq, Eq)]
 pub struct Tile {
     pub kind: Kind,
-    pub number: u64,
-    pub p: u64,
-    pub l: u64,
-    pub offset: u64,
+    pub number: u32,
+    pub p: usize,
+    pub l: usize,
+    pub first: Option<Line>,
+    pub second: Option<Line>,
+    pub offset: usize,
+}
+
+impl Tile {
+    /// The lines to `fill`, where there is a flag: a lone one, in either place, comes twice. Without a flag the tile is to be repaired.
+    pub fn lost(&self) -> Option<(Line, Line)> {
+        Some((self.first.or(self.second)?, self.second.or(self.first)?))
+    }
 }
 
 /// The kind and the two numbers of an answer that is no refusal.
@@ -88,15 +114,41 @@ fn hurt(answer: u64) -> Result<Option<Hurt>, Refused> {
         1 => Some(Hurt::Line(Line::Column(first as u8))),
         2 => Some(Hurt::Line(Line::Row(first as u8))),
         3 => Some(Hurt::Cell { row: first as u8, column: second as u8 }),
-        _ => unreachable!("a repair is not answered by kind {kind}"),
+        _ => unreachable!("a repair is not answered by kind {}", kind),
     })
 }
+
+/// What a column's number is added to when it is named, and the flag for no line.
+const COLUMNS: usize = 0x8000;
+const NO_FLAG: usize = 0xffff;
 
 fn name(line: Line) -> usize {
     match line {
         Line::Row(r) => usize::from(r),
-        Line::Column(c) => 0x8000 + usize::from(c),
+        Line::Column(c) => COLUMNS + usize::from(c),
     }
+}
+
+fn name_flag(flag: Option<Line>) -> usize {
+    flag.map_or(NO_FLAG, name)
+}
+
+/// The flag that `cf_next` gives as a number. It is none, or a line of the tile, whose number fits a byte.
+fn flag(number: usize) -> Option<Line> {
+    match number {
+        NO_FLAG => None,
+        COLUMNS.. => Some(Line::Column((number - COLUMNS) as u8)),
+        _ => Some(Line::Row(number as u8)),
+    }
+}
+
+/// How many bytes a tile of size p has, and its text.
+pub fn tile_len(p: usize) -> usize {
+    (p - 1) * (p - 1)
+}
+
+pub fn text_len(p: usize) -> usize {
+    (p - 1) * (p - 3)
 }
 
 /// The library's version: 10000 times the first of its numbers, 100 times the second, and the third.
@@ -162,8 +214,37 @@ pub fn correct(kind: Kind, p: usize, l: usize, tile: &mut [u8], sheet: &[u8]) ->
 
 /// What stands at a place of a reel: a tile, or nothing at the end.
 pub fn next(reel: &[u8], at: usize) -> Result<Option<Tile>, Refused> {
-    let (mut kind, mut number, mut p, mut l, mut offset) = (0, 0, 0, 0, 0);
-    let answer = unsafe { c::cf_next(reel.as_ptr(), reel.len(), at, &mut kind, &mut number, &mut p, &mut l, &mut offset) };
-    let kind = if kind == 1 { Kind::Old } else { Kind::New };
-    taken(answer, offset).map(|(answered, ..)| (answered == 0).then_some(Tile { kind, number, p, l, offset }))
+    let (mut kind, mut number, mut p, mut l, mut first, mut second, mut offset) = (0, 0, 0, 0, 0, 0, 0);
+    let answer = unsafe {
+        c::cf_next(
+            reel.as_ptr(), reel.len(), at, &mut kind, &mut number, &mut p, &mut l, &mut first, &mut second, &mut offset,
+        )
+    };
+    let (answered, ..) = taken(answer, offset)?;
+    let tile = Tile {
+        kind: if kind == 1 { Kind::Old } else { Kind::New },
+        number: number as u32,
+        p: p as usize,
+        l: l as usize,
+        first: flag(first as usize),
+        second: flag(second as usize),
+        offset: offset as usize,
+    };
+    Ok((answered == 0).then_some(tile))
+}
+
+/// Lays the record of a tile into the first bytes of a room, and says how many these are. The tile is not judged: it may be hurt.
+pub fn lay(record: Record, p: usize, l: usize, number: u32, tile: &[u8], room: &mut [u8]) -> Result<usize, Refused> {
+    let (which, first, second) = match record {
+        Record::New => (0, None, None),
+        Record::Old => (1, None, None),
+        Record::Flagged(first, second) => (2, first, second),
+    };
+    let (first, second, mut length) = (name_flag(first), name_flag(second), 0);
+    let answer = unsafe {
+        c::cf_lay(
+            which, p, l, number, first, second, tile.as_ptr(), tile.len(), room.as_mut_ptr(), room.len(), &mut length,
+        )
+    };
+    taken(answer, 0).map(|_| length as usize)
 }
