@@ -2,7 +2,7 @@
 
 from measuring import SIZES
 
-# The sixteen works, each with the name of its case.
+# The seventeen works, each with the name of its case.
 WORKS = {
     "write": "write",
     "read": "read",
@@ -20,6 +20,7 @@ WORKS = {
     "judge": "judge, a row with a column",
     "correct-1": "correct, 1 record",
     "correct-100": "correct, 100 records",
+    "lay": "lay, a flagged record",
 }
 
 # Who else does a work: the peer, how the table names it, and its case.

@@ -1,5 +1,5 @@
-/* The jobs of the tile calls and of the sheet: the same sixteen for the library and for the independent implementation, whose
- * calls have the same parameters. */
+/* The jobs of the tile calls, of the sheet and of a record: the same seventeen for the library and for the independent implementation,
+ * whose calls have the same parameters. */
 
 #include <string.h>
 
@@ -8,7 +8,7 @@
 #include "material.h"
 #include "peer.h"
 
-enum { RECORD = 8, RANDOM_FOR_RECORD = 5, DAMAGE_SEED = 3, SHEET_SEED = 4 };
+enum { RECORD = 8, RANDOM_FOR_RECORD = 5, DAMAGE_SEED = 3, SHEET_SEED = 4, NUMBER = 7 };
 
 /* The calls of one implementation. */
 struct calls {
@@ -20,6 +20,7 @@ struct calls {
     uint64_t (*fill)(size_t, size_t, size_t, uint8_t *, size_t, size_t, size_t);
     uint64_t (*judge)(size_t, size_t, const uint8_t *, size_t, const uint8_t *, size_t, size_t, size_t);
     uint64_t (*correct)(size_t, size_t, size_t, uint8_t *, size_t, const uint8_t *, size_t, uint64_t *);
+    uint64_t (*lay)(size_t, size_t, size_t, uint32_t, size_t, size_t, const uint8_t *, size_t, uint8_t *, size_t, uint64_t *);
 };
 
 /* What a job's call is given besides the copy. Each job uses the part that it needs. */
@@ -28,7 +29,7 @@ struct given {
     uint8_t *text;
     uint8_t *tile;
     uint8_t *scan;
-    size_t first, second; /* the lines to fill, or that were restored */
+    size_t first, second; /* the lines to fill, or that were restored, or are flagged */
     uint8_t *sheet;
     size_t sheet_length;
 };
@@ -90,6 +91,17 @@ static uint64_t call_correct(const struct job *job, uint8_t *copy)
     uint64_t word = given->calls->correct(CF_NEW, job->p, SLOPE, copy, job->length, given->sheet, given->sheet_length, &count);
 
     return word == 0 ? count : UINT64_MAX;
+}
+
+/* Answers the length of the record; for anything but Done, a length that none has. */
+static uint64_t call_lay(const struct job *job, uint8_t *copy)
+{
+    const struct given *given = job->given;
+    uint64_t length;
+    uint64_t word = given->calls->lay(CF_FLAGGED, job->p, SLOPE, NUMBER, given->first, given->second, given->tile, cf_tile_len(job->p),
+                                      copy, job->length, &length);
+
+    return word == 0 ? length : UINT64_MAX;
 }
 
 /* An answer as the calls give it, put together here from its parts. */
@@ -174,6 +186,26 @@ static void prepare_judge(struct job *job, struct given *given, uint8_t *damaged
     given->scan = damaged;
     given->first = first;
     given->second = second;
+}
+
+/* The record of the tile with two flags, into room for just that. */
+static void prepare_lay(struct job *job, struct given *given, size_t row, size_t column)
+{
+    const uint8_t header[] = {
+        0xd5, 0x5e, (uint8_t)(job->p >> 8), (uint8_t)job->p, 0, SLOPE, 0, 0, 0, NUMBER, 0, (uint8_t)row, 0x80, (uint8_t)column,
+    };
+    uint8_t *record;
+
+    job->call = call_lay;
+    job->length = sizeof header + cf_tile_len(job->p);
+    job->before = new_waste(job->length);
+    record = new_memory(job->length);
+    memcpy(record, header, sizeof header);
+    memcpy(record + sizeof header, given->tile, cf_tile_len(job->p));
+    job->after = record;
+    job->answer = job->length;
+    given->first = cf_row(row);
+    given->second = cf_column(column);
 }
 
 /* Puts one record into the sheet and its correction into the text: a place, the byte there now, and another byte. */
@@ -262,6 +294,8 @@ static bool prepare_tile_job(const struct calls *calls, const char *name, size_t
         damage_row(hurt, p, third);
         damage_column(hurt, p, two_thirds);
         prepare_judge(job, given, hurt, cf_row(third), cf_column(two_thirds));
+    } else if (strcmp(name, "lay") == 0) {
+        prepare_lay(job, given, third, two_thirds);
     } else if (strcmp(name, "correct-1") == 0) {
         prepare_correct(job, given, 1);
     } else if (strcmp(name, "correct-100") == 0) {
@@ -274,7 +308,7 @@ static bool prepare_tile_job(const struct calls *calls, const char *name, size_t
 
 bool prepare_counterfrost(const char *name, size_t p, struct job *job)
 {
-    static const struct calls calls = { cf_write, cf_read, cf_repair, cf_inspect, cf_recover, cf_fill, cf_judge, cf_correct };
+    static const struct calls calls = { cf_write, cf_read, cf_repair, cf_inspect, cf_recover, cf_fill, cf_judge, cf_correct, cf_lay };
 
     return prepare_tile_job(&calls, name, p, job);
 }
@@ -282,7 +316,7 @@ bool prepare_counterfrost(const char *name, size_t p, struct job *job)
 bool prepare_peer(const char *name, size_t p, struct job *job)
 {
     static const struct calls calls = {
-        peer_write, peer_read, peer_repair, peer_inspect, peer_recover, peer_fill, peer_judge, peer_correct,
+        peer_write, peer_read, peer_repair, peer_inspect, peer_recover, peer_fill, peer_judge, peer_correct, peer_lay,
     };
 
     return prepare_tile_job(&calls, name, p, job);
