@@ -42,7 +42,7 @@ class Refused(Exception):
 
 
 def row(number):
-    """A row, for fill and judge, and as a flag. One that is no number of a line is named as 7ffe hex: no tile has it, and it is refused 4."""
+    """A row, for fill and judge, and as a flag. One that is no number of a line is named as 7ffe hex, which no tile has: it is refused 4."""
     return number if 0 <= number < 0x7FFE else 0x7FFE
 
 

@@ -26,7 +26,8 @@ HouseWorded p = Worded sizeAnswer (HouseTold p)
 abbrev pub TakesWorded : ℕ → ℕ → ℕ → ℕ → Type 0
 TakesWorded kind p l = Worded sizeAnswer (Judged (tileKind kind) p l)
 
--- SPEC 11.1, 5.1 to 5.4 and 5.7: a tile call that leaves the bytes x. The kind goes in as a number, by 11.5, and so do the lines to fill, by 11.3 and 3.5
+-- SPEC 11.1, 5.1 to 5.4 and 5.7: a tile call that leaves the bytes x. The kind goes in as a number, by 11.5, and so do the lines to fill,
+-- by 11.3 and 3.5
 abbrev pub WriteWorded : ℕ → ℕ → ℕ → List ℕ → List ℕ → ℕ → List ℕ → Type 0
 WriteWorded kind p l text tile w x = Worded tileAnswer (λ s. WriteTold (tileKind kind) p l text tile s x) w
 

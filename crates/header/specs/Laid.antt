@@ -38,7 +38,8 @@ pub record Fits (h : Header) : Type 0 where
   pub first : Short (h .first)
   pub second : Short (h .second)
 
--- the bytes of a header: the mark, the numbers and the flags, each with its high byte first. In a record without flags they end with the tenth
+-- the bytes of a header: the mark, the numbers and the flags, each with its high byte first. In a record without flags they end with the
+-- tenth
 abbrev pub headerBytes : Header → List ℕ
 headerBytes h =
     markNumber (h .mark) / 256

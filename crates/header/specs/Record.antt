@@ -10,8 +10,8 @@ use Rattle.code.specs.Tile.{tileLength}
 use Rattle.header.specs.Header.{byteOf, kindOf, headerLength, HeaderAt, Carries}
 use Rattle.header.specs.declared.Header.{Header}
 
--- SPEC 7.5: a tile may be put on a reel behind this header: its size is one, the mark's kind takes its slope there, its number is one of four
--- bytes, the record may carry its flags, and the tile has the right length
+-- SPEC 7.5: a tile may be put on a reel behind this header: its size is one, the mark's kind takes its slope there, its number is one of
+-- four bytes, the record may carry its flags, and the tile has the right length
 pub record Fit (h : Header) (tile : List ℕ) : Type 0 where
   pub size : Size (h .p)
   pub slope : Takes (kindOf (h .mark)) (h .p) (h .l)

@@ -1,5 +1,5 @@
--- WHAT IS LAID READS BACK AS ITSELF (SPEC 7.7): as the tile that was lent, with what its header says, wherever the record stands; and a reel of
--- such records lists them in order. Assumes nothing.
+-- WHAT IS LAID READS BACK AS ITSELF (SPEC 7.7): as the tile that was lent, with what its header says, wherever the record stands; and a
+-- reel of such records lists them in order. Assumes nothing.
 use mathlib.Core.Path.{_≡_}
 use mathlib.Core.List.{List, [], _∷_, _++_}
 use Prim.Native.Nat.{ℕ, _+_, _<_}

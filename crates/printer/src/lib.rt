@@ -10,8 +10,8 @@ pub enum Laid {
     Refused(Refusal),
 }
 
-// Lays the record of a tile behind its header into the first bytes of a room. The refusals come in this order: 1, 2 by the mark's kind, 3 for
-// the tile, 4 for a flag that the record cannot carry, 9 if the room is too small.
+// Lays the record of a tile behind its header into the first bytes of a room. The refusals come in this order: 1, 2 by the mark's kind, 3
+// for the tile, 4 for a flag that the record cannot carry, 9 if the room is too small.
 pub fn lay(header: Header, tile: &[u8], room: &mut [u8]) -> Laid
     ensures { λ r. ⌜ LayTold header (now (tile .entry)) (now (room .entry)) (laidSaid r) (now (room .exit)) ⌝ }
 {

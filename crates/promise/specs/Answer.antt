@@ -1,4 +1,5 @@
--- WHAT A READER MUST BELIEVE: the answer that each case of the enums `Outcome`, `Repaired` and `Restored` stands for (SPEC 5 and 7.6). Assumes nothing.
+-- WHAT A READER MUST BELIEVE: the answer that each case of the enums `Outcome`, `Repaired` and `Restored` stands for (SPEC 5 and 7.6).
+-- Assumes nothing.
 use Prim.Native.Nat.{ℕ}
 use Rattle.size.specs.Refusal.{numberOf}
 use Rattle.promise.specs.declared.Outcome.{Outcome}

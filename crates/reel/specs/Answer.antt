@@ -7,8 +7,8 @@ use Rattle.reel.specs.declared.Tile.{Tile}
 use Rattle.reel.specs.declared.Found.{Found}
 use Rattle.reel.specs.declared.Found.the-variants as found
 
--- SPEC 7.2: a tile, with its kind, its number, its p, its l, its two flags and the offset where its bytes begin; the end; or a refusal, with its
--- number and offset
+-- SPEC 7.2: a tile, with its kind, its number, its p, its l, its two flags and the offset where its bytes begin; the end; or a refusal,
+-- with its number and offset
 pub data Said : Type 0 where
   tile : Tile → Said
   end : Said

@@ -13,7 +13,8 @@ use Rattle.header.specs.declared.Mark.{Mark}
 use Rattle.header.specs.declared.Header.{Header}
 use Rattle.reel.specs.Answer.{Said, tile, end, refused, tileOf}
 
--- SPEC 7.2: from the place on the reel has the bytes of the shortest header; those of this mark's header; and, behind this header, a whole tile
+-- SPEC 7.2: from the place on the reel has the bytes of the shortest header; those of this mark's header; and, behind this header, a whole
+-- tile
 abbrev pub StartWhole : List ℕ → ℕ → Type 0
 StartWhole reel at = at + 10 ≤ length reel
 

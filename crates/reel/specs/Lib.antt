@@ -1,5 +1,5 @@
--- The reel: what a reader must believe (`Answer`, `Calls`, `Reading`, `Walk`, `Laid`; what a record's header says stands in the crate `header`),
--- and what follows from it.
+-- The reel: what a reader must believe (`Answer`, `Calls`, `Reading`, `Walk`, `Laid`; what a record's header says stands in the crate
+-- `header`), and what follows from it.
 pub mod Answer
 pub mod Calls
 pub mod Reading

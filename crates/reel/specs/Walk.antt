@@ -14,8 +14,8 @@ pub data WalkByPlace (reel : List ℕ) : ℕ → List Tile → Said → Type 0 w
   goes-on : {at to : ℕ} {t : Tile} {more : List Tile} {last : Said} → NextTold reel at (tile t)
       → AfterTold reel at to → WalkByPlace reel to more last → WalkByPlace reel at (t ∷ more) last
 
--- SPEC 7.5: a tile that is found on a part, with its offset counted from the beginning of the reel, which is so many bytes before that of the
--- part; and what is said of a part
+-- SPEC 7.5: a tile that is found on a part, with its offset counted from the beginning of the reel, which is so many bytes before that of
+-- the part; and what is said of a part
 abbrev pub further : ℕ → Tile → Tile
 further by t = record { kind = t .kind; number = t .number; p = t .p; l = t .l; first = t .first; second = t .second; at = by + t .at }
 

@@ -1,5 +1,5 @@
--- WHAT A READER MUST BELIEVE: the word and the numbers that stand for each answer, and the kind and the record that a number names (SPEC 11.1, 11.5
--- and 11.6). Assumes nothing.
+-- WHAT A READER MUST BELIEVE: the word and the numbers that stand for each answer, and the kind and the record that a number names (SPEC
+-- 11.1, 11.5 and 11.6). Assumes nothing.
 use mathlib.Core.Bool.{cond}
 use Prim.Native.Nat.{ℕ, _+_, _*_}
 use lib.Dec.{eqb}
@@ -30,8 +30,8 @@ sizeAnswer (size.slope l) = answer 0 l 0
 sizeAnswer size.well = done
 sizeAnswer (size.refused n) = refusal n
 
--- SPEC 11.1: what write, read, fill, judge and repair say; a column is kind 1 and a row kind 2, with its number, and a cell is kind 3 with its row
--- first and its column second
+-- SPEC 11.1: what write, read, fill, judge and repair say; a column is kind 1 and a row kind 2, with its number, and a cell is kind 3 with
+-- its row first and its column second
 abbrev pub tileAnswer : tile.Said → Answer
 tileAnswer tile.done = done
 tileAnswer tile.clean = done
