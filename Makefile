@@ -52,7 +52,7 @@ dist: lib target/bin/list ## 3 minutes (at once) a tar file with all that a user
 	@tools/pack "target/dist/$(DIST)"
 	@echo "target/dist/$(DIST).tar.gz"
 
-test: kit ## 8 minutes           the whole gate: everything proved from nothing, every wrong program tried, the library compared; removes target/
+test: kit ## 10 minutes          the whole gate: everything proved from nothing, every wrong program tried, the library compared; removes target/
 	@echo "kit: $$(rt version)"
 	@echo "pinned: $$(cat KIT)"
 	@.ci/gate
