@@ -24,7 +24,7 @@ use Rattle.restorer.specs.Shams.{restored-6, restored-zeros}
 use Rattle.header.specs.Same.{header-there}
 use Rattle.header.specs.declared.Mark.the-variants as mark
 use Rattle.reel.specs.Calls.{NextTold, ends, headed, stands}
-use Rattle.reel.specs.Worked.{plainTile, whole-case, first, second, walked, flag-case, crossed, lone-second, lone-first, no-flags, unflagged, no-filling}
+use Rattle.reel.specs.Worked.{plainTile, whole-case, first, second, walked, flag-case, crossed, lone-second, lone-first, no-flags, unflagged, no-filling, flag-walked}
 use Rattle.reel.specs.declared.Tile.{Tile}
 use Rattle.lettering.specs.Line.{ascii, digitsUpTo, decimal, stateText, tileLine, endLine, stoppedLine}
 use Rattle.listing.specs.Listing.{TileListed, lists, Closes, stops}
@@ -44,6 +44,10 @@ tile-8 = refl
 pub stopped-7 : stoppedLine 7 52 ≡ ascii "stopped 7 52\n"
 unfolding stoppedLine decimal digitsUpTo
 stopped-7 = refl
+
+pub stopped-4 : stoppedLine 4 176 ≡ ascii "stopped 4 176\n"
+unfolding stoppedLine decimal digitsUpTo
+stopped-4 = refl
 
 -- the empty reel has no tiles (SPEC 7.1)
 pub end-0 : endLine 0 ≡ ascii "end 0\n"
@@ -159,3 +163,9 @@ unflagged-line = flag-line (row 0) zeros (ascii "13 5 2 row 0\n") unflagged (cla
 pub no-filling-line : Only (TileListed flag-case 146) (ascii "14 5 2 refused 5\n")
 unfolding tileLine stateText decimal digitsUpTo
 no-filling-line = flag-line (refused 5) tile-10 (ascii "14 5 2 refused 5\n") no-filling (claimed 10 New .0) refl
+
+-- and the line that closes it: row 4 is flagged, and a tile of size 5 has no such row
+pub flag-closing-line : Only (Closes flag-case) (ascii "stopped 4 176\n")
+flag-closing-line =
+    let line = rw stopped-4 at (stops flag-walked) in
+    (line, λ other said. closes-once said line)

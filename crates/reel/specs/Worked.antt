@@ -2,12 +2,13 @@
 -- flags. Assumes nothing.
 use mathlib.Core.Path.{refl}
 use mathlib.Core.List.{List, [], _∷_, _++_}
-use Prim.Native.Nat.{ℕ}
+use Prim.Native.Nat.{ℕ, _+_}
 use native.Mathlib.Omega.{arith}
 use lib.Dec.{lit<, lit≤}
 use Rattle.code.specs.declared.Kind.{Kind}
 use Rattle.code.specs.declared.Kind.the-variants.{New, Old}
 use Rattle.code.specs.declared.Line.the-variants.{Row, Column}
+use Rattle.code.specs.Tile.{tileLength}
 use Rattle.size.specs.Answer.{well, Judged, taken, no-slope}
 use Rattle.size.specs.Shams.{size-5, size-7, at-5-2, new-as-old}
 use Rattle.promise.specs.Worked.{zeros, tile-4, tile-6, tile-9}
@@ -17,9 +18,8 @@ use Rattle.flag.specs.declared.Flag.the-variants.{None, Lost}
 use Rattle.header.specs.Same.{header-there}
 use Rattle.header.specs.declared.Mark.the-variants as mark
 use Rattle.reel.specs.Answer.{tile, end, refused}
-use Rattle.reel.specs.Calls.{NextTold, ends, start-cut, headed, refuses, no-line, stands}
-use Rattle.reel.specs.Walk.{WalkByPlace}
-use Rattle.reel.specs.Walk as walk
+use Rattle.reel.specs.Calls.{NextTold, ends, start-cut, headed, refuses, no-line, stands, AfterTold}
+use Rattle.reel.specs.Walk.{WalkByPlace, goes-on, stops}
 use Rattle.reel.specs.declared.Tile.{Tile}
 
 -- a tile with this kind, number, size and slope, and with its bytes at this offset, that has these flags, or none
@@ -53,11 +53,13 @@ third = start-cut (lit< tt) (λ h. omega (arith, h))
 pub behind : NextTold whole-case 53 end
 behind = ends (lit≤ tt)
 
+-- the place behind a tile
+behind-it : {reel : List ℕ} {at : ℕ} {t : Tile} → NextTold reel at (tile t) → AfterTold reel at (t .at + tileLength (t .p))
+behind-it {reel} {at} {t} told = record { said = tile t; told = told; is = refl }
+
 -- two tiles, and a refusal with 7 at offset 52
 pub walked : WalkByPlace whole-case 0 (plainTile New 7 5 2 10 ∷ plainTile New 8 5 2 36 ∷ []) (refused 7 52)
-walked =
-    walk.WalkByPlace.goes-on first (record { said = tile (plainTile New 7 5 2 10); told = first; is = refl })
-    (walk.WalkByPlace.goes-on second (record { said = tile (plainTile New 8 5 2 36); told = second; is = refl }) (walk.WalkByPlace.stops third tt))
+walked = goes-on first (behind-it first) (goes-on second (behind-it second) (stops third tt))
 
 -- ---- an old record
 
@@ -78,6 +80,15 @@ old-first = headed (header-there old-case 0 mark.Old (refl, refl) (lit≤ tt)) (
 
 pub old-second : NextTold old-case 46 (tile (plainTile New 7 5 2 56))
 old-second = headed (header-there old-case 46 mark.Plain (refl, refl) (lit≤ tt)) (stands judged (tt, tt) (lit≤ tt))
+
+pub old-third : NextTold old-case 72 (tile (plainTile New 8 5 2 82))
+old-third = headed (header-there old-case 72 mark.Plain (refl, refl) (lit≤ tt)) (stands judged (tt, tt) (lit≤ tt))
+
+pub old-behind : NextTold old-case 98 (refused 7 98)
+old-behind = start-cut (lit< tt) (λ h. omega (arith, h))
+
+pub old-walked : WalkByPlace old-case 0 (plainTile Old 9 7 2 10 ∷ plainTile New 7 5 2 56 ∷ plainTile New 8 5 2 82 ∷ []) (refused 7 98)
+old-walked = goes-on old-first (behind-it old-first) (goes-on old-second (behind-it old-second) (goes-on old-third (behind-it old-third) (stops old-behind tt)))
 
 -- the same bytes behind the mark of a new record are refused with 2
 abbrev pub new-case : List ℕ
@@ -135,3 +146,17 @@ no-filling = headed (header-there flag-case 146 mark.Flagged (refl, refl) (lit�
 pub no-row-4 : NextTold flag-case 176 (refused 4 176)
 unfolding flagOf lineOf
 no-row-4 = headed (header-there flag-case 176 mark.Flagged (refl, refl) (lit≤ tt)) (no-line judged (λ c. omega (arith, c .0)))
+
+-- six tiles, and a refusal with 4 at offset 176
+pub flag-walked : WalkByPlace flag-case 0
+    (flaggedTile 9 5 2 row-0 column-0 14
+    ∷ flaggedTile 10 5 2 None row-0 44
+    ∷ flaggedTile 11 5 2 column-3 None 74
+    ∷ flaggedTile 12 5 2 None None 104
+    ∷ plainTile New 13 5 2 130
+    ∷ flaggedTile 14 5 2 row-0 column-0 160
+    ∷ [])
+    (refused 4 176)
+flag-walked =
+    goes-on crossed (behind-it crossed) (goes-on lone-second (behind-it lone-second) (goes-on lone-first (behind-it lone-first)
+    (goes-on no-flags (behind-it no-flags) (goes-on unflagged (behind-it unflagged) (goes-on no-filling (behind-it no-filling) (stops no-row-4 tt))))))
