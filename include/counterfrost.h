@@ -229,7 +229,7 @@ uint64_t cf_next(const uint8_t *reel, size_t reel_len, size_t at, uint64_t *kind
                  uint64_t *first, uint64_t *second, uint64_t *offset);
 
 /*
- * Lays a whole record of a reel: its mark, p, l, the tile's number, the flags where it has them, and the tile. `which` is CF_NEW, CF_OLD or
+ * Puts a record of a reel together: its mark, p, l, the tile's number, for CF_FLAGGED its flags, and the tile. `which` is CF_NEW, CF_OLD or
  * CF_FLAGGED; every other number counts as CF_NEW. The flags are named as for cf_fill, or are CF_NO_FLAG; CF_NEW and CF_OLD have no place
  * for a flag, and both have to be CF_NO_FLAG there. The tile is not judged: it may be hurt.
  *

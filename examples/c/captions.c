@@ -125,7 +125,7 @@ static int flagged(const struct found *found)
     return found->first != CF_NO_FLAG || found->second != CF_NO_FLAG;
 }
 
-/* Fills the lines that the flags name, or repairs the tile where there is no flag. A lone flag, in either place, is named twice. */
+/* Fills the lines that the flags name, or repairs the tile where there is no flag. If only one of them is set, it is named twice. */
 static uint64_t restore(const struct found *found, uint8_t *tile)
 {
     size_t first = found->first == CF_NO_FLAG ? found->second : found->first;

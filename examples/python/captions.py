@@ -46,7 +46,7 @@ def restore(library, kind, p, l, first, second, tile):
     """Fills the lines that the flags name, or repairs the tile where there is no flag, and says what came of it."""
     lost = [flag for flag in (first, second) if flag is not None]
     if lost:
-        library.fill(kind, p, l, tile, lost[0], lost[-1])  # a lone flag, in either place, is named twice
+        library.fill(kind, p, l, tile, lost[0], lost[-1])  # if only one flag is set, it is named twice
         return "filled"
     return hurt_in_words(library.repair(kind, p, l, tile))
 

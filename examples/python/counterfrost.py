@@ -42,7 +42,7 @@ class Refused(Exception):
 
 
 def row(number):
-    """A row, for fill and judge, and as a flag. One that is no number of a line is named as 7ffe hex, which no tile has: it is refused 4."""
+    """A row, for fill and judge, and as a flag. One that is no number of a line is named as 7ffe hex: no tile has it, and 4 is said."""
     return number if 0 <= number < 0x7FFE else 0x7FFE
 
 
@@ -149,7 +149,7 @@ class Counterfrost:
 
     def tiles(self, reel):
         """The tiles of a reel of any length, one after the other: kind, number, p, l, the first and the second flag, and a copy of the
-        tile, which fill or repair may change. A tile with a flag is to be filled; a lone flag, in either place, is a line to name twice."""
+        tile, which fill or repair may change. A tile with a flag is to be filled; if only one is set, name its line twice."""
         at = 0
         while True:
             numbers = kind, number, p, l, first, second, offset = [c_uint64() for _ in range(7)]

@@ -91,7 +91,7 @@ pub struct Tile {
 }
 
 impl Tile {
-    /// The lines to `fill`, where there is a flag: a lone one, in either place, comes twice. Without a flag the tile is to be repaired.
+    /// The lines to `fill`, where there is a flag: if only one is set, its line comes twice. Without a flag the tile is to be repaired.
     pub fn lost(&self) -> Option<(Line, Line)> {
         Some((self.first.or(self.second)?, self.second.or(self.first)?))
     }

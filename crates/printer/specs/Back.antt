@@ -1,5 +1,5 @@
--- WHAT IS LAID READS BACK AS ITSELF (SPEC 7.7): as the tile that was lent, with what its header says, wherever the record stands; and a
--- reel of such records lists them in order. Assumes nothing.
+-- WHAT WAS LAID IS READ AGAIN (SPEC 7.7): as the tile that was lent, with what its header says, wherever the record stands; and a walk
+-- along a reel that was laid record by record gives all of them, one after the other. Assumes nothing.
 use mathlib.Core.Path.{_≡_}
 use mathlib.Core.List.{List, [], _∷_, _++_}
 use Prim.Native.Nat.{ℕ, _+_, _<_}
@@ -49,6 +49,6 @@ built-laid : {ts : List Printed} {reel : List ℕ} → Built ts reel → Laid ts
 built-laid none = put.Laid.none
 built-laid (more told rest) = let fit = laid-fit told in put.Laid.more (fit .0) (fit .1) (built-laid rest)
 
--- A REEL OF SUCH RECORDS lists them in order, and then comes the end
+-- A WALK ALONG SUCH A REEL gives them one after the other, and then comes the end
 pub built-lists : (ts : List Printed) (reel : List ℕ) → Built ts reel → (listed : List Tile) × WalkByPlace reel 0 listed end × ReadBack reel listed ts
 built-lists ts reel built = laid-back ts reel (built-laid built)

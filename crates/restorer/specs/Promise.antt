@@ -82,6 +82,6 @@ module _ (p l : ℕ) (tile : List ℕ) {first second : Flag} {a b : Line} (lines
   pub lost-restored : (y : List ℕ) → TileLength p y → Good p l y → EqualOutsideBoth p a b tile y → RestoreTold New p l tile first second done y
   lost-restored y size good agrees = sure-filled New p l tile lines sure taken ha hb (record { size = size; good = good; agrees = agrees })
 
-  -- so a good tile with a flag is filled too, and stays what it is
+  -- so where nothing was lost a flag does no harm: filled is said, and the tile stays what it is
   pub good-filled : Good p l tile → RestoreTold New p l tile first second done tile
   good-filled good = lost-restored tile (admitted-well taken .2) good (λ i j hi hj d e. refl)

@@ -1,4 +1,4 @@
--- WHAT A READER MUST BELIEVE: what is done with a tile that carries flags (SPEC 7.6). Assumes nothing.
+-- WHAT A READER MUST BELIEVE: how a tile is restored by its flags (SPEC 7.6). Assumes nothing.
 use mathlib.Core.List.{List}
 use Prim.Native.Nat.{ℕ}
 use Rattle.code.specs.declared.Kind.{Kind}

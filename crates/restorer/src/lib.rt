@@ -1,5 +1,4 @@
-// What is done with a tile that carries flags: it is filled where there is one, and repaired where there is none. Whoever has a tile from a
-// reel asks here.
+// Restoring a tile from a reel: its flagged lines are filled, or it is repaired if nothing is flagged. Whoever has such a tile asks here.
 use code::Kind;
 use flag::Flag;
 use promise::Outcome;
@@ -9,7 +8,7 @@ ghost use mathlib.Core.Path.{_≡_};
 ghost use Rattle.promise.specs.Answer.{repairSaid, outcomeSaid, restoreSaid};
 ghost use Rattle.restorer.specs.Restore.{RestoreTold};
 
-// Restores a tile by its flags. A lone flag, in either place, is that line named twice.
+// Restores a tile by its flags. If just one of the two tells of a line, be it the second, that line is filled by itself.
 pub fn restore(
     kind: Kind,
     p: usize,
