@@ -1,0 +1,33 @@
+-- `page::put` meets its contract. Assumes nothing.
+use borrow.Author.Needs.{needs}
+use Rattle.page.specs.Then.{put-copied}
+use Rattle.page.proofs.put.Statement.{statement}
+use Rattle.page.proofs.put.Tie as tie
+
+sub-copy : tie.Need-sub-copy
+sub-copy c = search needs
+
+part-copy-start : tie.Need-part-copy-start
+part-copy-start c = search needs
+
+part-copy-end : tie.Need-part-copy-end
+part-copy-end c = search needs
+
+copy-requires : tie.Need-copy-requires
+copy-requires c κs = search needs
+
+add-result : tie.Need-add-result
+add-result c = search needs
+
+same-length : tie.Need-same-length
+same-length c = search needs
+
+returns : tie.Need-returns
+returns c =
+    let start = c .before .before .before .before .before .before in
+    put-copied (start .args .page .now) (start .args .words .now) (start .args .at) (start .pre) _ (c .before .before .copy .ensures .1)
+
+pub put-spec : {M : Type 1} → statement M
+put-spec =
+    tie.close
+    (tie.spec sub-copy part-copy-start part-copy-end copy-requires add-result same-length returns)
