@@ -8,12 +8,18 @@ SONAME := libcounterfrost.so.$(basename $(VERSION))
 
 ARCHIVE = target/staticlib/libcounterfrost.a
 SHARED = target/shared/libcounterfrost.so.$(VERSION)
+PROGRAM = target/bin/counterfrost
 DIST = counterfrost-$(VERSION)-linux-x86_64
 
 # How many crates, or edits, rt proves at a time: one more than there are cores, so that none is idle while the last of a batch is proved.
 export RT_JOBS ?= $(shell n=$$(nproc); echo $$((n < 4 ? n + 1 : 5)))
 
-TARGETS = help list lib install uninstall dist test check face stack bench reels expected clean
+# What the archives are built of.
+SOURCES := crates.txt $(shell find crates -name '*.rt' -o -name '*.antt')
+# How the tests call the program: by its name, or on another processor by a script that runs it under the emulator.
+CALLED := $(if $(filter x86_64,$(shell uname -m)),$(PROGRAM),tests/run-command)
+
+TARGETS = help list lib install uninstall dist test check face command stack bench reels expected clean
 .PHONY: $(TARGETS) kit target/bin/list
 # Two that prove at once in one folder would get in each other's way.
 .NOTPARALLEL:
@@ -37,22 +43,23 @@ list: target/bin/list ## 2 minutes (at once) lists a sample reel, or with REEL=p
 
 lib: $(ARCHIVE) $(SHARED) ## 2 minutes (at once) proves the library for C and builds it: target/staticlib, target/shared
 
-install: lib target/bin/list ## 3 minutes (at once) puts library, header and program below PREFIX, /usr/local if none is named
+install: lib $(PROGRAM) target/bin/list ## minutes (at once)   puts command, library and header below PREFIX, /usr/local if none is named
 	@tools/place "$(DESTDIR)$(PREFIX)" $(VERSION) $(SONAME) $(ARCHIVE) $(SHARED)
-	@echo "installed below $(DESTDIR)$(PREFIX): bin/counterfrost-list, include/counterfrost.h, and in lib the archive and the shared library"
+	@echo "installed below $(DESTDIR)$(PREFIX): bin/counterfrost with its man page and its completion for bash, bin/counterfrost-list,"
+	@echo "include/counterfrost.h, and in lib the archive and the shared library"
 	@echo "to compile with it: export PKG_CONFIG_PATH=\"$$(realpath -m -- "$(PREFIX)")/lib/pkgconfig\""
 	@[ "$$(uname -m)" = x86_64 ] || echo "all of it is for x86-64, which this machine is not: README.md says how to use it here"
 
 uninstall: ## at once             takes away what install puts below PREFIX
 	@tools/place --remove "$(DESTDIR)$(PREFIX)"
 
-dist: lib target/bin/list ## 3 minutes (at once) a tar file with all that a user needs, and no need of the kit: target/dist
+dist: lib $(PROGRAM) target/bin/list ## minutes (at once)   a tar file with all that a user needs, and no need of the kit: target/dist
 	@rm -rf target/dist && mkdir -p target/dist
 	@tools/place "target/dist/$(DIST)" $(VERSION) $(SONAME) $(ARCHIVE) $(SHARED)
 	@tools/pack "target/dist/$(DIST)"
 	@echo "target/dist/$(DIST).tar.gz"
 
-test: kit ## 10 minutes          the whole gate: everything proved from nothing, every wrong program tried, the library compared; removes target/
+test: kit ## 10 minutes          the whole gate: all proved from nothing, each wrong program tried, library and command compared; removes target/
 	@echo "kit: $$(rt version)"
 	@echo "pinned: $$(cat KIT)"
 	@.ci/gate
@@ -60,20 +67,28 @@ test: kit ## 10 minutes          the whole gate: everything proved from nothing,
 check: kit ## 4 minutes (at once) proves all crates and runs the programs; with NAME=crate that one, and what it stands on
 	@rt check $(NAME)
 
-face: lib target/bin/list ## half a minute       once the library is built: header, examples, installation, tar file, calls compared, stack
+face: lib $(PROGRAM) target/bin/list ## half a minute       once all is built: header, examples, installation, tar file, calls, stack
 	@tests/face/run $(ARCHIVE)
 	@tests/stack/run $(ARCHIVE)
 	@tests/installed
 
+command: $(PROGRAM) ## seconds             once it is built: the command, the examples of its man page, its completion
+	@tests/command/run $(CALLED)
+	@tests/man $(CALLED)
+	@tests/completion
+
 stack: lib ## seconds             once the library is built: how much of the stack each call takes, held to its goal
 	@tests/stack/run $(ARCHIVE)
 
-bench: lib ## 3 minutes           once the library is built: measures it, and writes the tables of docs/BENCHMARK.md (needs python3)
+bench: lib $(PROGRAM) ## 5 minutes           once all is built: measures it, and writes the tables of docs/BENCHMARK.md (needs python3)
 	@bench/install
 	@bench/run $(ARCHIVE)
+	@bench/command $(PROGRAM)
 
-reels: target/bin/list ## 1 to 2 minutes      lists some thousand reels, and compares (needs python3)
+reels: $(PROGRAM) target/bin/list ## minutes             lists some thousand reels, tries the command, and compares (needs python3)
 	@python3 tests/reels.py tests/run-made target/bin/list
+	@python3 tests/command.py $(CALLED) --long
+	@python3 tests/film.py 71 | $(CALLED) map - | cmp - docs/map.svg && echo "docs/map.svg is the map of the film of tests/film.py"
 
 expected: ## seconds             works out again what the programs have to print, and compares (needs python3)
 	@python3 tests/expected_worked.py | diff - crates/worked/stdout && echo "crates/worked/stdout is what SPEC asks for"
@@ -89,8 +104,14 @@ kit:
 target/bin/list: kit
 	@tools/prove list
 
-$(ARCHIVE): crates.txt $(shell find crates -name '*.rt' -o -name '*.antt') | kit
+$(ARCHIVE): $(SOURCES) | kit
 	@tools/prove --archive counterfrost
+
+target/staticlib/libcommand.a: $(SOURCES) | kit
+	@tools/prove --archive command
+
+$(PROGRAM): target/staticlib/libcommand.a tools/link-command
+	@tools/link-command $< $@
 
 $(SHARED): $(ARCHIVE) packaging/exports
 	@tools/share $(ARCHIVE) $@ $(SONAME)

@@ -105,8 +105,8 @@ extern "C" {
 
 /* The version of this header: 10000 times the first of its numbers, 100 times the second, and the third. cf_version gives that of the
  * library. Until 1.0.0 calls may change where the second number does; the shared library is named by these two. */
-#define CF_VERSION 700
-#define CF_VERSION_TEXT "0.7.0"
+#define CF_VERSION 800
+#define CF_VERSION_TEXT "0.8.0"
 
 /* The kinds of a tile, which a call is told before p and l, and which cf_next gives back. Any number but 1 counts as new. */
 #define CF_NEW 0u

@@ -9,7 +9,7 @@ import ctypes
 import platform
 from ctypes import byref, c_size_t, c_uint8, c_uint32, c_uint64
 
-NAMED_AS = "libcounterfrost.so.0.7"  # the calls below are those of this version
+NAMED_AS = "libcounterfrost.so.0.8"  # the calls below are those of this version
 
 NEW = 0  # takes the slopes that are allowed at its size
 OLD = 1  # takes every slope from 2 to p-2; where the slope is not allowed, a repair or a filling may be doubtful, which is refused 8

@@ -86,7 +86,7 @@ takes-slope-first kind t = omega (arith, takes-word-once kind 4 0 (word (refusal
 -- ---- the version
 
 -- a library that says the version before this one, and one that says none
-pub version-stale : _≡_ {A = ℕ} 601 version → ⊥
+pub version-stale : _≡_ {A = ℕ} 700 version → ⊥
 version-stale e = omega (arith, e)
 
 pub version-missing : _≡_ {A = ℕ} 0 version → ⊥

@@ -76,7 +76,7 @@ pub fn of_outcome(answer: Outcome) -> u64
 pub fn version() -> u64
     ensures { λ r. ⌜ r ≡ numbered.version ⌝ }
 {
-    700
+    800
 }
 
 // The kind that a number stands for: 1 is old, and every other one new, the stricter of the two.
