@@ -43,7 +43,7 @@ list: target/bin/list ## 2 minutes (at once) lists a sample reel, or with REEL=p
 
 lib: $(ARCHIVE) $(SHARED) ## 2 minutes (at once) proves the library for C and builds it: target/staticlib, target/shared
 
-install: lib $(PROGRAM) target/bin/list ## minutes (at once)   puts command, library and header below PREFIX, /usr/local if none is named
+install: lib $(PROGRAM) target/bin/list ## 6 minutes (at once) puts command, library and header below PREFIX, /usr/local if none is named
 	@tools/place "$(DESTDIR)$(PREFIX)" $(VERSION) $(SONAME) $(ARCHIVE) $(SHARED)
 	@echo "installed below $(DESTDIR)$(PREFIX): bin/counterfrost with its man page and its completion for bash, bin/counterfrost-list,"
 	@echo "include/counterfrost.h, and in lib the archive and the shared library"
@@ -53,18 +53,18 @@ install: lib $(PROGRAM) target/bin/list ## minutes (at once)   puts command, lib
 uninstall: ## at once             takes away what install puts below PREFIX
 	@tools/place --remove "$(DESTDIR)$(PREFIX)"
 
-dist: lib $(PROGRAM) target/bin/list ## minutes (at once)   a tar file with all that a user needs, and no need of the kit: target/dist
+dist: lib $(PROGRAM) target/bin/list ## 6 minutes (at once) a tar file with all that a user needs, and no need of the kit: target/dist
 	@rm -rf target/dist && mkdir -p target/dist
 	@tools/place "target/dist/$(DIST)" $(VERSION) $(SONAME) $(ARCHIVE) $(SHARED)
 	@tools/pack "target/dist/$(DIST)"
 	@echo "target/dist/$(DIST).tar.gz"
 
-test: kit ## 10 minutes          the whole gate: all proved from nothing, each wrong program tried, library and command compared; removes target/
+test: kit ## 15 minutes          the whole gate: all proved from nothing, each wrong program tried, library and command compared; removes target/
 	@echo "kit: $$(rt version)"
 	@echo "pinned: $$(cat KIT)"
 	@.ci/gate
 
-check: kit ## 4 minutes (at once) proves all crates and runs the programs; with NAME=crate that one, and what it stands on
+check: kit ## 6 minutes (at once) proves all crates and runs the programs; with NAME=crate that one, and what it stands on
 	@rt check $(NAME)
 
 face: lib $(PROGRAM) target/bin/list ## half a minute       once all is built: header, examples, installation, tar file, calls, stack
@@ -85,7 +85,7 @@ bench: lib $(PROGRAM) ## 5 minutes           once all is built: measures it, and
 	@bench/run $(ARCHIVE)
 	@bench/command $(PROGRAM)
 
-reels: $(PROGRAM) target/bin/list ## minutes             lists some thousand reels, tries the command, and compares (needs python3)
+reels: $(PROGRAM) target/bin/list ## 3 minutes           lists some thousand reels, tries the command, and compares (needs python3)
 	@python3 tests/reels.py tests/run-made target/bin/list
 	@python3 tests/command.py $(CALLED) --long
 	@python3 tests/film.py 71 | $(CALLED) map - | cmp - docs/map.svg && echo "docs/map.svg is the map of the film of tests/film.py"
