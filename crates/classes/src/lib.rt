@@ -1,6 +1,8 @@
 // How many fillings a row with a column has, at any slope. Counted from their crossing, the chain between them goes from the offset o to
 // l o, from there to l² o, and so further until it is back at o: these offsets are the class of o. Where the powers of l reach all there is
 // one class. Where they do not, the sums of both slopes have to agree over each class by itself, or there is no filling.
+#![tactic(auto)]
+
 ghost use Rattle.std.specs.Prelude.{◌≡◌, ◌-◌, ◌≤◌, ◌<◌};
 ghost use Rattle.residue.specs.Power.{ReachesAll};
 ghost use Rattle.residue.specs.Order.{Order};

@@ -139,11 +139,15 @@ free_cell p (Row r) (Row s) (Row t) h side d e = (0, omega arith, λ q. d (ap Ro
 free_cell p (Column r) (Column s) (Column t) h side d e = (0, omega arith, λ q. d (ap Column (sym q)), λ q. e (ap Column (sym q)))
 free_cell p (Row r) (Row s) (Column t) h side d e = let k = neither r s in (k.0, omega (arith, k.1), k.2, k.3)
 free_cell p (Column r) (Column s) (Row t) h side d e = let k = neither r s in (k.0, omega (arith, k.1), k.2, k.3)
+free_cell p (Row r) (Column s) c h side d e = elim side [ ]
+free_cell p (Column r) (Row s) c h side d e = elim side [ ]
 
 -- two parallel lines that are different have different numbers
 numbers_apart : (a b : Line) → Parallel a b → a ≢ b → number a ≢ number b
 numbers_apart (Row r) (Row s) side d e = d (ap Row e)
 numbers_apart (Column r) (Column s) side d e = d (ap Column e)
+numbers_apart (Row r) (Column s) side d e = elim side [ ]
+numbers_apart (Column r) (Row s) side d e = elim side [ ]
 
 -- the k-th cell of a line is on it
 nth_on : (c : Line) (k i j : ℕ) → i ≡ row_at c k → j ≡ column_at c k → On c i j

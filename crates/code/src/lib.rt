@@ -1,5 +1,6 @@
 // What a good tile is, and the paper's theorems about it, stand in specs/. There is no code here: only the two types that
 // definitions and calls share.
+#![tactic(auto)]
 
 // SPEC 3.4: a line of a tile, which is a row or a column, by its number from 0.
 #[derive(Drop)]

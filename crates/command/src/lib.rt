@@ -1,4 +1,6 @@
 // The command `counterfrost`, for the linker: its program begins here, and the answer is the exit status.
+#![tactic(auto)]
+
 ghost use Rattle.files.specs.Exit.{Exit};
 
 #[unsafe(no_mangle)]

@@ -1,5 +1,7 @@
 // The face for C and Rust, as include/counterfrost.h declares it. Each call wraps a proved one: it answers by a word, and promises what that
 // one does. None asks anything of its input.
+#![tactic(auto)]
+
 ghost use Rattle.std.specs.Prelude.{◌≡◌};
 ghost use Rattle.size.specs.Answer.{house_said};
 ghost use Rattle.promise.specs.Answer.{repair_said};

@@ -1,4 +1,6 @@
 // What the command does: a reel listed, repaired, drawn, read, written, filled and corrected, from files of any length.
+#![tactic(auto)]
+
 ghost use Rattle.files.specs.Exit.{Exit};
 
 use files::{asked, guide, input, say};

@@ -1,4 +1,6 @@
 // Filling one or two flagged lines of a tile.
+#![tactic(auto)]
+
 ghost use Rattle.promise.specs.Answer.{outcome_said};
 ghost use Rattle.promise.specs.Calls.{FillTold};
 

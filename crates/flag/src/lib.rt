@@ -1,4 +1,6 @@
 // A line by its number, and a flag: a line that the scanner lost, or none. On a reel and in C both stand as numbers.
+#![tactic(auto)]
+
 ghost use Rattle.std.specs.Prelude.{◌≡◌};
 ghost use Rattle.flag.specs.Flag.{line_of, flag_of, flag_number, Short};
 

@@ -1,5 +1,7 @@
 // The header of a record: which of the three records it is, and what stands before the tile's bytes. Here alone the code knows how a record
 // is laid out.
+#![tactic(auto)]
+
 ghost use Rattle.std.specs.Prelude.{◌≡◌, ◌+◌, ◌≤◌, length};
 ghost use Rattle.code.specs.Says.{Says};
 ghost use Rattle.header.specs.Header.{kind_of, header_length, StartIs, HeaderAt, Carried, Carries, flag_at};

@@ -1,4 +1,6 @@
 // The table of house slopes, and the look-up in it. Its rule is tested here, once, where the table is all that there is to look at.
+#![tactic(auto)]
+
 ghost use Rattle.house.specs.House.{SlopeTold};
 
 // Every size, in rising order ..

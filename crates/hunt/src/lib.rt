@@ -1,4 +1,6 @@
 // The search for a tile along a reel: the first that has a number.
+#![tactic(auto)]
+
 use files::input::View;
 use files::progress::Clock;
 use files::{copy, input, progress, say};

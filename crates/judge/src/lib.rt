@@ -1,4 +1,6 @@
 // Judging a tile that somebody restored from a scan.
+#![tactic(auto)]
+
 mod outside;
 
 ghost use Rattle.std.specs.Prelude.{◌≡◌};

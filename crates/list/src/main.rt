@@ -1,4 +1,6 @@
 // Lists a reel that it reads from standard input.
+#![tactic(auto)]
+
 ghost use Rattle.std.specs.Prelude.{◌≡◌, length};
 ghost use Rattle.list.specs.Input.{Within};
 

@@ -1,5 +1,7 @@
 // The listing of a reel: a line for each tile, and a closing line. What each line says is settled byte by byte; what is left to the
 // system is to write it.
+#![tactic(auto)]
+
 ghost use Rattle.std.specs.Prelude.{◌≤◌, length, take};
 ghost use Rattle.reel.specs.Answer.{found_said, NoTile};
 ghost use Rattle.reel.specs.Calls.{NextTold};

@@ -1,4 +1,6 @@
 // A new reel of texts: each becomes the good tile that has it, in a record of its own.
+#![tactic(auto)]
+
 ghost use Rattle.std.specs.Prelude.{◌≡◌, length};
 ghost use Rattle.files.specs.Exit.{Exit};
 

@@ -1,5 +1,7 @@
 // One hurt line of a tile: repaired, named, or put right while the text is read. It is looked for in one place, `search::hurt`, and what is
 // said of it is said in one place too.
+#![tactic(auto)]
+
 ghost use Rattle.std.specs.Prelude.{◌≡◌, ◌≤◌, length};
 ghost use Rattle.code.specs.Tile.{tile_length};
 ghost use Rattle.code.specs.Held.{held};

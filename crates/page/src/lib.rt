@@ -1,4 +1,6 @@
 // Words and numbers on a page, one behind the other. Each call is told where what stands there ends, and answers where it ends now.
+#![tactic(auto)]
+
 ghost use Rattle.std.specs.Prelude.{◌≡◌, ◌+◌, ◌≤◌, ◌<◌, length, get_or};
 ghost use Rattle.lettering.specs.Line.{decimal};
 ghost use Rattle.page.specs.Page.{Puts, right_aligned, taken, sign_filled, filled, sign_room, room};

@@ -1,5 +1,7 @@
 // What is shown of a tile and of a reel: as lines of a listing, as squares of a drawing, or as signs for a terminal. Nothing is written
 // here: it is put on a page.
+#![tactic(auto)]
+
 pub mod drawing;
 pub mod signs;
 pub mod tally;

@@ -1,4 +1,6 @@
 // Puts the record of a tile together, as the reel reads it.
+#![tactic(auto)]
+
 ghost use Rattle.printer.specs.Lay.{laid_said, LayTold};
 
 use header::Header;

@@ -1,5 +1,7 @@
 // What the tile calls promise, in specs/; what they answer; and what is judged first in each. The calls themselves have rooms of their own,
 // and users find all of them in the crate `tile`.
+#![tactic(auto)]
+
 ghost use Rattle.std.specs.Prelude.{◌≡◌};
 ghost use Rattle.code.specs.Says.{Says};
 ghost use Rattle.code.specs.Tile.{tile_length, text_length};

@@ -1,4 +1,6 @@
 // What the records of a sheet and of a reel share: their numbers.
+#![tactic(auto)]
+
 ghost use Rattle.std.specs.Prelude.{◌≡◌};
 ghost use Rattle.record.specs.Number.{big_endian, big_endian_long};
 

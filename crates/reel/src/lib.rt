@@ -1,6 +1,8 @@
 // The reel: tiles on a film, one record behind the other, of three sorts that their marks tell apart. What stands at a place of it is a
 // tile, the end, or a refusal. A tile's bytes, and the reel behind them, are handed back as parts of the reel that was lent. All offsets
 // are those of that reel.
+#![tactic(auto)]
+
 pub mod reader;
 
 ghost use Rattle.std.specs.Prelude.{◌≡◌};

@@ -1,1 +1,2 @@
 // The laws of remainders stand in specs/. There is no code here.
+#![tactic(auto)]

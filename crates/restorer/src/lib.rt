@@ -1,4 +1,6 @@
 // Restoring a tile from a reel: its flagged lines are filled, or it is repaired if nothing is flagged. Whoever has such a tile asks here.
+#![tactic(auto)]
+
 ghost use Rattle.std.specs.Prelude.{◌≡◌};
 ghost use Rattle.promise.specs.Answer.{repair_said, outcome_said, restore_said};
 ghost use Rattle.restorer.specs.Restore.{RestoreTold};

@@ -1,5 +1,7 @@
 // The correction sheet: records that each name a place in a tile's text, what stood there and what is to stand there. The tile
 // need not be sound: what is made is the change that the sheet asks for, the same in every tile.
+#![tactic(auto)]
+
 ghost use Rattle.std.specs.Prelude.{◌≡◌, ◌+◌, ◌≤◌, ◌<◌, length};
 ghost use Rattle.code.specs.Slope.{Slope};
 ghost use Rattle.code.specs.Tile.{tile_length};

@@ -1,4 +1,6 @@
 // Shows a window of a reel: each tile is restored where it stands and put on a page, in one of three forms.
+#![tactic(auto)]
+
 pub mod status;
 
 ghost use Rattle.std.specs.Prelude.{◌+◌, ◌≤◌, length};

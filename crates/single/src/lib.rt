@@ -1,4 +1,6 @@
 // What the command does with one tile of a reel, the first that has a number: it is read, filled or corrected.
+#![tactic(auto)]
+
 ghost use Rattle.std.specs.Prelude.{◌≡◌, length};
 ghost use Rattle.files.specs.Exit.{Exit};
 

@@ -1,4 +1,6 @@
 // Judges sizes and slopes, for every call that is told some; the house slope of a size; the numbers for no.
+#![tactic(auto)]
+
 ghost use Rattle.std.specs.Prelude.{◌≡◌, ◌+◌, ◌≤◌};
 ghost use Rattle.residue.specs.Size.{Size, Allowed};
 ghost use Rattle.code.specs.Says.{Says};

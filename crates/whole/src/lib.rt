@@ -1,4 +1,6 @@
 // What the command does with a whole reel: it is listed, repaired or drawn.
+#![tactic(auto)]
+
 ghost use Rattle.std.specs.Prelude.{◌≤◌, length};
 ghost use Rattle.show.specs.Show.{Near};
 ghost use Rattle.files.specs.Exit.{Exit};

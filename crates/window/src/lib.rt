@@ -1,5 +1,7 @@
 // A window on a reel: what a reader holds of it at a time. A reel of any length is walked by windows, one behind the other, each of which
 // begins where a record does (SPEC 12.9).
+#![tactic(auto)]
+
 pub mod one;
 
 ghost use Rattle.std.specs.Prelude.{◌≡◌, ◌+◌, ◌-◌, ◌≤◌, length, drop};

@@ -1,4 +1,6 @@
 // Answers as words, and numbers as kinds of tiles and records: what the C library's calls have in common.
+#![tactic(auto)]
+
 ghost use Rattle.std.specs.Prelude.{◌≡◌};
 ghost use Rattle.size.specs.Answer.{judgement_said};
 ghost use Rattle.size.specs.Refusal.{number_of};

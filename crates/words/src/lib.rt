@@ -1,5 +1,7 @@
 // The words of a command line: which command, which option, which number and which line of a tile a word is, and how many words a command
 // takes.
+#![tactic(auto)]
+
 ghost use Rattle.std.specs.Prelude.{◌≡◌};
 ghost use Rattle.code.specs.Says.{Says};
 ghost use Rattle.words.specs.Words.{Begins, VerbIs, SortIs, AmountIs, LineIs, fewest_words, most_words, Takes};

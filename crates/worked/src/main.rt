@@ -1,5 +1,7 @@
 // Runs a script of questions that it reads from standard input: it writes each line as it stands, and below a question the answer. What has
 // to be answered is worked out by tests/expected_worked.py, without this program.
+#![tactic(auto)]
+
 mod ask;
 
 use libc::STDIN_FILENO;

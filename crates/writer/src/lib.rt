@@ -1,4 +1,6 @@
 // Writing a text as a tile, and reading it.
+#![tactic(auto)]
+
 ghost use Rattle.promise.specs.Answer.{outcome_said};
 ghost use Rattle.promise.specs.Calls.{WriteTold, ReadTold};
 
