@@ -1,7 +1,7 @@
 -- How many changes in a column with a row settle the sums, at any slope: where the powers reach all the two sums through the crossing
 -- decide, and where they do not the classes do. Assumes nothing.
 use Rattle.std.specs.Prelude.{◌≡◌, refl, ◌≢◌, ℕ, ◌-◌, ◌<◌}
-use Rattle.std.proofs.Common.{inr, arith}
+use Rattle.std.proofs.Common.{inl, inr, arith}
 use Rattle.residue.specs.Power.{ReachesAll}
 use Rattle.residue.specs.Order.{Order, order_reaches}
 use Rattle.code.specs.Slope.{Slope, slope_pos, slope_inverse}
@@ -33,6 +33,7 @@ pub data CrossedMany (p l t s : ℕ) (A B : ℕ → ℕ) : Fillings → Type 0 w
 
 -- a column with a row is not sure where the order of the slope is not p - 1
 pub missing : (p l n t s : ℕ) → Slope p l → Order p l n → n ≢ p - 1 → Sure p l (Column t) (Row s) → ⊥
+missing p l n t s S O d (inl side) = elim side [ ]
 missing p l n t s S O d (inr all) = d ((order_reaches p l S.prime (slope_pos p l S) n O).1 all)
 
 module _ (p l : ℕ) (A B : ℕ → ℕ) (S : Slope p l) where

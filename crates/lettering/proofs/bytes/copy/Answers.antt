@@ -1,0 +1,24 @@
+-- `lettering::bytes::copy` meets its contract. The loop's invariant: the first k bytes are copied, and the length of `to` stays.
+use mathlib.Core.Path.{◌≡◌, refl}
+use Prim.Native.Nat.{◌-◌, ◌≤◌}
+use native.Mathlib.Omega.{arith}
+use lib.ListN.{length, length-set}
+use lib.Seq.{paste, paste-zero}
+use Rattle.lettering.specs.Lay.{laid_more}
+use Rattle.lettering.proofs.bytes.copy.Goals as goal
+
+pub loop-k-init : goal.loop-k-init
+loop-k-init c =
+    let args = c.args in (omega arith, refl, refl, paste-zero args.to.now args.at args.from.now)
+
+pub loop-k-preserved : goal.loop-k-preserved
+loop-k-preserved c =
+    let loop = c.loop-k in
+    let args = c.args in
+    (omega arith, refl, simp length-set loop.invariant.2, laid_more args.to.now args.at args.from.now c.requires loop.k loop.to (omega arith) loop.invariant.3)
+
+pub returns : goal.returns
+returns c =
+    let loop = c.loop-k in
+    let all : loop.k ≡ length c.args.from.now = omega arith in
+    rw all at loop.invariant.3

@@ -1,0 +1,12 @@
+-- `walk::sums::add_bytes` meets its contract. The loop's invariant: the first k bytes are added.
+use mathlib.Core.Path.{◌≡◌}
+use Prim.Native.Nat.{◌-◌, ◌≤◌}
+use native.Mathlib.Omega.{arith}
+use Rattle.walk.specs.Walk.{BytesAdded, bytes_none, bytes_more}
+use Rattle.walk.proofs.sums.add_bytes.Given as goal
+
+abbrev pub invariant-loop-k : goal.invariant-loop-k
+invariant-loop-k l = (l.k ≤ l.count) × BytesAdded l.tile l.start l.k l.first l.initial.sums l.sums
+
+abbrev pub decreases-loop-k : goal.decreases-loop-k
+decreases-loop-k l = l.count - l.k

@@ -1,0 +1,14 @@
+-- `walk::sums::turned_sums` meets its contract. The loop's invariant: the rows before row i are added to the sums, and `first` is the line of
+-- the next row's first cell.
+use mathlib.Core.Path.{◌≡◌}
+use Prim.Native.Nat.{◌-◌, ◌≤◌}
+use native.Mathlib.Omega.{arith}
+use Rattle.code.specs.Place.{row_lt}
+use Rattle.walk.specs.Walk.{RowsAdded, rows_none, rows_more, rows_all}
+use Rattle.walk.proofs.sums.turned_sums.Given as goal
+
+abbrev pub invariant-loop-i : goal.invariant-loop-i
+invariant-loop-i l = (l.i ≤ l.p - 1) × RowsAdded l.p l.m l.tile l.i l.first l.sums
+
+abbrev pub decreases-loop-i : goal.decreases-loop-i
+decreases-loop-i l = l.p - 1 - l.i
