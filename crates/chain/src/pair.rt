@@ -14,7 +14,7 @@ use walk::along::{along, take_off_common};
 use walk::index::{number, step, through};
 
 // A column and a second line of a tile of size p and slope l.
-#[derive(Drop)]
+#[derive(Clone, Copy)]
 pub struct Pair {
     pub p: usize,
     pub l: usize,

@@ -17,7 +17,7 @@ use code::{Kind, Line};
 use walk::index::through;
 
 // How many fillings there are.
-#[derive(Drop)]
+#[derive(Clone, Copy)]
 pub enum Fillings {
     None,
     One,

@@ -3,14 +3,14 @@
 #![tactic(auto)]
 
 // SPEC 3.4: a line of a tile, which is a row or a column, by its number from 0.
-#[derive(Drop)]
+#[derive(Clone, Copy)]
 pub enum Line {
     Row(usize),
     Column(usize),
 }
 
 // SPEC 2.5: the kind of a tile. A new one has an allowed slope, an old one any from 2 to p-2.
-#[derive(Drop)]
+#[derive(Clone, Copy)]
 pub enum Kind {
     New,
     Old,

@@ -7,7 +7,7 @@ ghost use Rattle.flag.specs.Flag.{line_of, flag_of, flag_number, Short};
 use code::Line;
 
 // What a flag says: no line, or the one that was lost.
-#[derive(Drop)]
+#[derive(Clone, Copy)]
 pub enum Flag {
     None,
     Lost(Line),

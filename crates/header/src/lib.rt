@@ -11,7 +11,7 @@ use code::Kind;
 use flag::Flag;
 
 // The mark of a record: that of a new tile, that of a new tile with flags, or that of an old one.
-#[derive(Drop)]
+#[derive(Clone, Copy)]
 pub enum Mark {
     Plain,
     Flagged,
@@ -19,7 +19,7 @@ pub enum Mark {
 }
 
 // What stands before a tile's bytes. Flags stand in a flagged record alone: in the others both are none.
-#[derive(Drop)]
+#[derive(Clone, Copy)]
 pub struct Header {
     pub mark: Mark,
     pub p: usize,
@@ -66,7 +66,7 @@ fn mark_number(mark: Mark) -> usize
 }
 
 // What a record begins with: a mark, or something else.
-#[derive(Drop)]
+#[derive(Clone, Copy)]
 pub enum Start {
     With(Mark),
     Other,

@@ -10,7 +10,7 @@ use size::Refusal;
 
 // A line: the first `length` of its bytes. There is room for every line: five numbers of at most 20 digits, the word `cell`, the spaces
 // between them and the LF make 110 bytes.
-#[derive(Drop)]
+#[derive(Clone, Copy)]
 pub struct Line {
     pub bytes: [u8; 112],
     pub length: usize,

@@ -20,7 +20,7 @@ use size::Refusal;
 use tally::Tally;
 
 // The three forms in which a reel is shown.
-#[derive(Drop)]
+#[derive(Clone, Copy)]
 pub enum Form {
     Lines,
     Squares,

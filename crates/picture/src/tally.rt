@@ -5,7 +5,7 @@ ghost use Rattle.picture.specs.Tally.{Below, no_tiles, counted};
 
 use promise::Restored;
 
-#[derive(Drop)]
+#[derive(Clone, Copy)]
 pub struct Tally {
     pub tiles: usize,
     pub clean: usize,

@@ -7,7 +7,7 @@ use header::Header;
 use size::{Judgement, Refusal};
 
 // What laying a record answers: its length, or why it was not laid.
-#[derive(Drop)]
+#[derive(Clone, Copy)]
 pub enum Laid {
     Record(usize),
     Refused(Refusal),

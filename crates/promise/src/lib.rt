@@ -13,7 +13,7 @@ use size::{Judgement, Refusal};
 use walk::index::number;
 
 // What write, read, fill and judge answer. Of judge, Done is that it accepts.
-#[derive(Drop)]
+#[derive(Clone, Copy)]
 pub enum Outcome {
     Done,
     Refused(Refusal),
@@ -21,7 +21,7 @@ pub enum Outcome {
 
 // What repair answers: nothing was hurt; or what it put right: one byte, by its row and its column, or two and more of a column or of a row.
 // Inspect and recover answer what repair would.
-#[derive(Drop)]
+#[derive(Clone, Copy)]
 pub enum Repaired {
     Clean,
     Cell(usize, usize),
@@ -31,7 +31,7 @@ pub enum Repaired {
 }
 
 // What comes of a tile that is filled where it carries a flag, and repaired where it carries none.
-#[derive(Drop)]
+#[derive(Clone, Copy)]
 pub enum Restored {
     Clean,
     Cell(usize, usize),

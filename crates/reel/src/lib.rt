@@ -18,7 +18,7 @@ use header::{Header, Start};
 use size::{Judgement, Refusal};
 
 // A tile on the reel: its kind, number, size and slope, its two flags as they stand there, and where its bytes begin.
-#[derive(Drop)]
+#[derive(Clone, Copy)]
 pub struct Tile {
     pub kind: Kind,
     pub number: usize,
@@ -30,7 +30,7 @@ pub struct Tile {
 }
 
 // What stands at a place: a tile, the end, or a refusal with the offset at which the record begins.
-#[derive(Drop)]
+#[derive(Clone, Copy)]
 pub enum Found {
     Tile(Tile),
     End,

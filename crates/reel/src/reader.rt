@@ -7,7 +7,7 @@ ghost use Rattle.reel.specs.Reading.{Begins, MovesTo, SecondTold};
 
 use crate::Found;
 
-#[derive(Drop)]
+#[derive(Clone, Copy)]
 pub struct Reader<'a> {
     pub reel: &'a [u8],
     pub at: usize,

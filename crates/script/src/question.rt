@@ -7,7 +7,7 @@ use code::{Kind, Line};
 pub const COLUMNS: usize = 24;
 
 // What a question tells a call: the first letter of its name, a tile's kind, two numbers, and two lines of a tile.
-#[derive(Drop)]
+#[derive(Clone, Copy)]
 pub struct Told {
     pub name: u8,
     pub kind: Kind,

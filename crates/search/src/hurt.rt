@@ -16,7 +16,7 @@ use walk::turn::inverse;
 
 // What is hurt: nothing; bytes of one line; more than one line can explain; or bytes of a column or of a row, and it cannot be told which.
 // In the last two cases nothing is mended.
-#[derive(Drop)]
+#[derive(Clone, Copy)]
 pub enum Hurt {
     Nothing,
     One(Line),

@@ -19,7 +19,7 @@ use size::{Judgement, Refusal};
 use walk::index::through;
 
 // What a sheet's call answers: the number of its records, or a refusal with the offset at which the faulty record begins.
-#[derive(Drop)]
+#[derive(Clone, Copy)]
 pub enum Corrected {
     Records(usize),
     Refused(Refusal, usize),
@@ -32,7 +32,7 @@ const MARK: usize = 0xC33C;
 const RECORD: usize = 8;
 
 // What a record says, and whether it has the mark.
-#[derive(Drop)]
+#[derive(Clone, Copy)]
 struct Correction {
     marked: bool,
     row: usize,

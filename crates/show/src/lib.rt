@@ -17,7 +17,7 @@ use size::Refusal;
 use window::Step;
 
 // How a walk along a window ended: the page is full, or what stands there is no tile.
-#[derive(Drop)]
+#[derive(Clone, Copy)]
 pub enum Ending {
     Full,
     More,
@@ -26,7 +26,7 @@ pub enum Ending {
 }
 
 // A walk: the place that it has come to, the tiles so far, and how much of the page is used.
-#[derive(Drop)]
+#[derive(Clone, Copy)]
 pub struct Walk {
     pub place: usize,
     pub tally: Tally,
@@ -71,7 +71,7 @@ fn past(
 }
 
 // What a walk came to, and how it ended.
-#[derive(Drop)]
+#[derive(Clone, Copy)]
 pub struct Walked {
     pub walk: Walk,
     pub ending: Ending,

@@ -11,7 +11,7 @@ ghost use Rattle.size.specs.Refusal.{number_of};
 use code::Kind;
 
 // Why a call says no.
-#[derive(Drop)]
+#[derive(Clone, Copy)]
 pub enum Refusal {
     BadSize,
     BadSlope,
@@ -46,7 +46,7 @@ pub fn number(refusal: Refusal) -> usize
 }
 
 // What the house slope of a size is asked for gives.
-#[derive(Drop)]
+#[derive(Clone, Copy)]
 pub enum House {
     Slope(usize),
     Refused(Refusal),
@@ -123,7 +123,7 @@ fn takes(kind: Kind, p: usize, l: usize) -> bool
 }
 
 // What a kind, p and l are judged to be.
-#[derive(Drop)]
+#[derive(Clone, Copy)]
 pub enum Judgement {
     Taken,
     Refused(Refusal),

@@ -17,7 +17,7 @@ use reel::{Found, Tile};
 use size::Refusal;
 
 // What stands at a place of a window: what stands there on the reel, or more of the reel is needed to say it.
-#[derive(Drop)]
+#[derive(Clone, Copy)]
 pub enum Step {
     Tile(Tile),
     End,
@@ -69,7 +69,7 @@ pub fn restore(window: &mut [u8], tile: Tile) -> Restored
 }
 
 // What a search for a tile comes to.
-#[derive(Drop)]
+#[derive(Clone, Copy)]
 pub enum Goal {
     Here(Tile),
     More,
@@ -78,7 +78,7 @@ pub enum Goal {
 }
 
 // A search: its place, the tiles that it passed, and what it came to.
-#[derive(Drop)]
+#[derive(Clone, Copy)]
 pub struct Sought {
     pub place: usize,
     pub tiles: usize,

@@ -9,7 +9,7 @@ ghost use Rattle.words.specs.Words.{Begins, VerbIs, SortIs, AmountIs, LineIs, fe
 use code::Line;
 
 // The commands; a word may be none of them.
-#[derive(Drop)]
+#[derive(Clone, Copy)]
 pub enum Verb {
     List,
     Repair,
@@ -24,7 +24,7 @@ pub enum Verb {
 }
 
 // What sort of word stands behind the command.
-#[derive(Drop)]
+#[derive(Clone, Copy)]
 pub enum Sort {
     Plain,
     Force,
@@ -33,7 +33,7 @@ pub enum Sort {
 }
 
 // A number, as a word says it.
-#[derive(Drop)]
+#[derive(Clone, Copy)]
 pub enum Amount {
     Is(usize),
     TooLarge,
@@ -41,7 +41,7 @@ pub enum Amount {
 }
 
 // A line of a tile, as a word names it.
-#[derive(Drop)]
+#[derive(Clone, Copy)]
 pub enum Named {
     Is(Line),
     No,

@@ -20,7 +20,7 @@ bounds-bytes-at-in-loop-k c =
 
 pub overflow_add-at : goal.overflow_add-at
 overflow_add-at c =
-    omega (arith, (omega (arith, run_in _ _ _ c.loop-k.k _ (omega arith) c.requires.4)))
+    omega (arith, run_in _ _ _ c.loop-k.k _ (omega arith) c.requires.4)
 
 pub loop-k-preserved : goal.loop-k-preserved
 loop-k-preserved c =

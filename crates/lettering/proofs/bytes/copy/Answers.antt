@@ -13,12 +13,10 @@ loop-k-init c =
 
 pub loop-k-preserved : goal.loop-k-preserved
 loop-k-preserved c =
-    let loop = c.loop-k in
     let args = c.args in
-    (omega arith, refl, simp length-set loop.invariant.2, laid_more args.to.now args.at args.from.now c.requires loop.k loop.to (omega arith) loop.invariant.3)
+    (omega arith, refl, simp length-set c.loop-k.invariant.2, laid_more args.to.now args.at args.from.now c.requires c.loop-k.k c.loop-k.to (omega arith) c.loop-k.invariant.3)
 
 pub returns : goal.returns
 returns c =
-    let loop = c.loop-k in
-    let all : loop.k ≡ length c.args.from.now = omega arith in
-    rw all at loop.invariant.3
+    let all : c.loop-k.k ≡ length c.args.from.now = omega arith in
+    rw all at c.loop-k.invariant.3

@@ -2,6 +2,7 @@
 use mathlib.Core.Path.{◌≡◌, refl}
 use native.Mathlib.Omega.{arith}
 use lib.ListN.{length}
+use borrow.Author.Rules.{rules}
 use Rattle.lettering.specs.Lay.{laid_all}
 use Rattle.lettering.proofs.line.with_words.Goals as goal
 

@@ -1,0 +1,20 @@
+-- `chain::filling::agree` meets its contract. The loop's invariant: t and u are k steps from the lines of both slopes through the column's
+-- first cell, and the sums agree along the cells passed.
+use mathlib.Core.Path.{◌≡◌, sym, ap, ◌∙◌}
+use Prim.Native.Nat.{ℕ, ◌+◌, ◌*◌, ◌%◌, ◌≤◌, ◌<◌, ◌-◌}
+use native.Mathlib.Nat.{mod-lt}
+use native.Mathlib.Omega.{arith}
+use borrow.Author.Count.{below_more}
+use Rattle.code.specs.declared.Line.TheVariants.{Column}
+use Rattle.code.specs.Held.{held}
+use Rattle.walk.specs.Bound.{product}
+use Rattle.walk.specs.Fill.{begins, carried, from_number}
+use Rattle.chain.specs.Agree.{from_first}
+use Rattle.chain.proofs.filling.agree.Given as goal
+
+abbrev pub invariant-loop-k : goal.invariant-loop-k
+invariant-loop-k l = (l.k ≤ l.p) × (l.t < l.p) × (l.u < l.p) × (l.t ≡ (l.c + 1 * l.k) % l.p) × (l.u ≡ (l.l * l.c % l.p + 1 * l.k) % l.p)
+    × ((j : ℕ) → j < l.k → held l.a ((l.c + 1 * j) % l.p) ≡ held l.b ((l.l * l.c % l.p + 1 * j) % l.p))
+
+abbrev pub decreases-loop-k : goal.decreases-loop-k
+decreases-loop-k l = l.p - l.k

@@ -1,0 +1,31 @@
+-- `judge::outside::agree_outside` meets its contract. The loop's invariant: each column passed has no mark, or is one of the two lines.
+--
+use mathlib.Core.Path.{◌≡◌}
+use mathlib.Core.Logic.{◌⊎◌, inl, inr, ⊎_elim}
+use Prim.Native.Nat.{ℕ, ◌-◌, ◌≤◌, ◌<◌}
+use native.Mathlib.Omega.{arith}
+use borrow.Author.Count.{below_more}
+use borrow.Author.Rules.{rules}
+use borrow.Author.Tests.{not-true, not-false}
+use Rattle.code.specs.Held.{held}
+use Rattle.code.specs.Says.{says_true, says_false}
+use Rattle.code.specs.declared.Line.TheVariants.{Column}
+use Rattle.judge.specs.Outside.{OneOf, marks_agree, mark_differs}
+use Rattle.judge.proofs.outside.agree_outside.Goals as goal
+
+pub loop-j-init : goal.loop-j-init
+loop-j-init c =
+    (omega arith, λ k h. absurd (omega arith))
+
+pub returns-then-not-is_one_of : goal.returns-then-not-is_one_of
+returns-then-not-is_one_of c =
+    mark_differs _ (omega arith) c.mark_columns.ensures c.if-marks-j-ne0.true
+    (says_false c.is_one_of.ensures c.if-not-is_one_of.true)
+
+pub loop-j-preserved : goal.loop-j-preserved
+loop-j-preserved c =
+    (omega arith, below_more _ _ c.loop-j.invariant.1 (⊎_elim (λ w. inr (says_true w.1.ensures (not-false w.1.result w.2.left))) (λ w. inl w.left) c.if-marks-j-ne0.branch))
+
+pub returns : goal.returns
+returns c =
+    marks_agree c.mark_columns.ensures (λ j h. c.loop-j.invariant.1 j (omega arith))
