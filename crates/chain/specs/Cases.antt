@@ -46,6 +46,8 @@ sure_either p l a b (inl h) = inl (parallel_either a b h)
     parallel_either : (a b : Line) → Parallel a b → Parallel b a
     parallel_either (Row r) (Row s) h = h
     parallel_either (Column c) (Column d) h = h
+    parallel_either (Row r) (Column d) h = elim h [ ]
+    parallel_either (Column c) (Row s) h = elim h [ ]
 sure_either p l a b (inr all) = inr all
 
 module _ (p l : ℕ) (a b : Line) (A B : ℕ → ℕ) where

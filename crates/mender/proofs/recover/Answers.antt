@@ -1,0 +1,41 @@
+-- `mender::recover` meets its contract.
+use mathlib.Core.Path.{refl}
+use native.Mathlib.Omega.{arith}
+use borrow.Author.Rules.{rules}
+use Rattle.promise.specs.Calls.{RecoverTold}
+use Rattle.promise.specs.Admit.{admitted_well, slope_of_lem}
+use Rattle.mender.specs.Mended.{line_in, recover_ends}
+use Rattle.mender.proofs.recover.Goals as goal
+
+pub find-hurt-requires : goal.find-hurt-requires
+find-hurt-requires c =
+    let a = rw c.in-Taken.is at c.judge_text.ensures in
+    let w = admitted_well a in
+    record {
+      slope = slope_of_lem a;
+      takes = w.1;
+      p_bound = (w.0.high, w.2.0, refl);
+    }
+
+pub take_mended-requires : goal.take_mended-requires
+take_mended-requires c =
+    let a = rw c.in-Taken.is at c.judge_text.ensures in
+    let w = admitted_well a in (
+      record { low = omega (arith, w.0.low); high = w.0.high; tile = w.2.0; text = w.2.1 },
+      line_in c.find-hurt.ensures,
+    )
+
+pub say-requires : goal.say-requires
+say-requires c =
+    let a = rw c.in-Taken.is at c.judge_text.ensures in
+    let w = admitted_well a in
+    (omega (arith, w.0.low), w.0.high)
+
+pub returns-in-Refused : goal.returns-in-Refused
+returns-in-Refused c =
+    RecoverTold.refuses (rw c.in-Refused.is at c.judge_text.ensures)
+
+pub returns-in-Taken : goal.returns-in-Taken
+returns-in-Taken c =
+    let a = rw c.in-Taken.is at c.judge_text.ensures in
+    recover_ends _ _ _ _ _ _ a c.find-hurt.ensures c.say.ensures c.take_mended.ensures
