@@ -30,4 +30,4 @@ returns-in-Refused c =
 pub returns-in-Taken : goal.returns-in-Taken
 returns-in-Taken c =
     let a = rw c.in-Taken.is at c.judge_tile.ensures in
-    record { tile = _; c = repair_ends _ _ _ _ _ a c.find-hurt.ensures c.say.ensures }
+    record { tile = _; told = repair_ends _ _ _ _ _ a c.find-hurt.ensures c.say.ensures }

@@ -17,4 +17,4 @@ returns-in-One c =
 
 pub returns-in-Nothing : goal.returns-in-Nothing
 returns-in-Nothing c =
-    kept _ _ c.args.hurt _ c.in-Nothing.keys2
+    kept _ _ c.args.hurt _ c.in-Nothing.is

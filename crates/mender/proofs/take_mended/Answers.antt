@@ -30,4 +30,4 @@ returns-in-One c =
 pub returns-in-More : goal.returns-in-More
 returns-in-More c =
     let a = c.args in
-    left a.p _ a.hurt _ _ c.in-More.keys3
+    left a.p _ a.hurt _ _ c.in-More.is

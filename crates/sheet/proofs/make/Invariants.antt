@@ -1,0 +1,14 @@
+-- `sheet::make` meets its contract. The loop's invariant: the records passed are made.
+use mathlib.Core.Path.{◌≡◌, ◌∙◌}
+use Prim.Native.Nat.{◌-◌, ◌≤◌}
+use native.Mathlib.Omega.{arith}
+use borrow.Author.Rules.{rules}
+use Rattle.sheet.specs.Sheet.{records}
+use Rattle.sheet.specs.Make.{Made, made_none, cell_within, made_more, made_totals, made_corrects}
+use Rattle.sheet.proofs.make.Given as goal
+
+abbrev pub invariant-loop-made : goal.invariant-loop-made
+invariant-loop-made l = (l.made ≤ l.count) × Made l.p l.l l.sheet l.initial.tile l.made l.tile l.a l.b
+
+abbrev pub decreases-loop-made : goal.decreases-loop-made
+decreases-loop-made l = l.count - l.made

@@ -1,0 +1,53 @@
+-- `writer::write` meets its contract.
+use mathlib.Core.Path.{refl, ◌∙◌}
+use native.Mathlib.Omega.{arith}
+use borrow.Author.Rules.{rules}
+use Rattle.code.specs.Held.{held}
+use Rattle.chain.specs.Cases.{held_totals}
+use Rattle.promise.specs.Calls.{refuses}
+use Rattle.promise.specs.Admit.{admitted_well, slope_of_lem}
+use Rattle.writer.specs.Written.{ends_written}
+use Rattle.writer.proofs.write.Goals as goal
+
+pub lay-requires : goal.lay-requires
+lay-requires c =
+    let w = admitted_well (rw c.in-Taken.is at c.judge_text.ensures) in
+    record { low = omega (arith, w.0.low); high = w.0.high; tile = w.2.0; text = w.2.1 }
+
+pub both_sums-requires : goal.both_sums-requires
+both_sums-requires c =
+    let a = rw c.in-Taken.is at c.judge_text.ensures in
+    let w = admitted_well a in
+    let slope = slope_of_lem a in
+    record {
+      shape = record {
+        prime = w.0.prime;
+        high = w.0.high;
+        positive = omega (arith, slope.low);
+        slope = omega (arith, slope.high);
+        size = c.lay.ensures.size ∙ w.2.0;
+      };
+      a_len = (refl, refl);
+    }
+
+pub settle-requires : goal.settle-requires
+settle-requires c =
+    let a = rw c.in-Taken.is at c.judge_text.ensures in
+    let w = admitted_well a in
+    record {
+      slope = slope_of_lem a;
+      p_bound = (w.0.high, c.lay.ensures.size ∙ w.2.0);
+      a_value = held_totals c.args.p c.args.l _ c.both_sums.new.a c.both_sums.new.b
+            c.both_sums.ensures.sums c.both_sums.ensures.sums_2;
+    }
+
+pub returns-in-Refused : goal.returns-in-Refused
+returns-in-Refused c =
+    refuses (rw c.in-Refused.is at c.judge_text.ensures)
+
+pub returns-in-Taken : goal.returns-in-Taken
+returns-in-Taken c =
+    ends_written c.args.kind c.args.p c.args.l (held c.both_sums.new.a) (held c.both_sums.new.b)
+    c.args.text.now c.args.tile.now _ _
+    (rw c.in-Taken.is at c.judge_text.ensures)
+    c.lay.ensures c.both_sums.ensures.sums c.both_sums.ensures.sums_2 c.settle.ensures
