@@ -17,7 +17,7 @@ use Rattle.flag.specs.Back.{number_back}
 use Rattle.header.specs.Header.{byte_of, Marked, kind_of, header_length, flag_at, LineCarried, Carries}
 use Rattle.header.specs.Mark.{one_mark}
 use Rattle.header.specs.declared.Mark.{Mark}
-use Rattle.header.specs.declared.Mark.TheVariants.{Flagged}
+use Rattle.header.specs.declared.Mark.TheVariants.{Plain, Flagged, Old}
 use Rattle.header.specs.Laid.{counted, carried_short}
 use Rattle.header.specs.declared.Header.{Header}
 use Rattle.reel.specs.Answer.{Said, tile, end, refused, NoTile}
@@ -58,13 +58,17 @@ flags_stand {reel} {at} (headed {h} there (stands j c w)) m =
 -- a record that carries a line's flag is that of a new tile, which has the line
 pub carried_line : (m : Mark) (p : ℕ) (a : Line) → LineCarried m p a → (kind_of m ≡ New) × Has p a
 carried_line Flagged p a c = (refl, c)
+carried_line Rattle.header.specs.declared.Mark.TheVariants.Plain p a c = elim c [ ]
+carried_line Rattle.header.specs.declared.Mark.TheVariants.Old p a c = elim c [ ]
 
 -- where no tile stands, the place behind it is the place itself, and no bytes are handed back
 pub after_stays : (at : ℕ) (said : Said) → NoTile said → at ≡ after_said at said
+after_stays at (tile _) n = elim n [ ]
 after_stays at end n = refl
 after_stays at (refused k from) n = refl
 
 pub hands_none : (reel bytes : Bor (List ℕ)) (said : Said) → NoTile said → bytes.now ≡ [] → HandsBack reel said bytes
+hands_none reel bytes (tile _) n e = elim n [ ]
 hands_none reel bytes end n e = e
 hands_none reel bytes (refused k from) n e = e
 

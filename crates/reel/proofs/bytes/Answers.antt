@@ -17,7 +17,7 @@ returns-in_default c =
     record {
       said = found_said c.next.result;
       told = c.next.ensures;
-      are = hands_none reel (sl_ptr_p reel 0 c.result-1.given) (found_said c.next.result) (no_tile c.next.result c.in_default.keys2) refl;
+      are = hands_none reel (sl_ptr_p reel 0 c.result-1.given) (found_said c.next.result) (no_tile c.next.result c.in_default.in_default-own.keys2) refl;
     }
 
 pub tile_length-requires : goal.tile_length-requires
