@@ -60,6 +60,7 @@ module _ (reel : List ℕ) (at : ℕ) where
 
     judged : (said : size.Said) → HeaderJudged h said → Answered
     unfolding Answered
+    judged (size.slope _) j = elim j [ ]
     judged size.well j = flags j (carries_or_not h)
     judged (size.refused n) j = (refused n at, refuses j)
 

@@ -81,6 +81,7 @@ before_left : (reel left : List ℕ) (at : ℕ) → at ≤ length reel → left 
 before_left reel left at h e = omega (arith, ap length e, length-drop at reel)
 
 shifted_none : (by : ℕ) (said : Said) → NoTile said → NoTile (shifted by said)
+shifted_none by (tile _) n = elim n [ ]
 shifted_none by end n = n
 shifted_none by (refused k from) n = n
 
@@ -102,7 +103,7 @@ WalkedRest total left = (tiles : List Tile) × (last : Said) × WalkByRest total
 
 -- the part of a reel from a place on, as a slice
 onward : Bor (List ℕ) → ℕ → Bor (List ℕ)
-onward left from = record { ref_ptr = (left.ref_ptr.0, from + left.ref_ptr.1); ghost_name = left.ghost_name; now = take (length left.now - from) (drop from left.now) }
+onward left from = record { ref_ptr = (left.ref_ptr.0, from + left.ref_ptr.1); now = take (length left.now - from) (drop from left.now) }
 
 one_rest : (total : ℕ) (left : Bor (List ℕ)) → ((rest : Bor (List ℕ)) → length rest.now < length left.now → WalkedRest total rest)
     → (said : Said) → NextTold left.now 0 said → WalkedRest total left

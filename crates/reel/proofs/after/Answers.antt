@@ -10,7 +10,7 @@ use Rattle.reel.proofs.after.Goals as goal
 
 pub returns-in_default : goal.returns-in_default
 returns-in_default c =
-    record { said = found_said c.next.result; told = c.next.ensures; is = after_stays c.args.at (found_said c.next.result) (no_tile c.next.result c.in_default.in_default-own.keys2) }
+    record { said = found_said c.next.result; told = c.next.ensures; is = after_stays c.args.at (found_said c.next.result) (no_tile c.next.result c.in_default.not-Tile) }
 
 pub tile_length-requires : goal.tile_length-requires
 tile_length-requires c =

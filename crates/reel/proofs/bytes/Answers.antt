@@ -17,7 +17,7 @@ returns-in_default c =
     record {
       said = found_said c.next.result;
       told = c.next.ensures;
-      are = hands_none reel (sl_ptr_p reel 0 c.result-1.given) (found_said c.next.result) (no_tile c.next.result c.in_default.in_default-own.keys2) refl;
+      are = hands_none reel _ (found_said c.next.result) (no_tile c.next.result c.in_default.not-Tile) refl;
     }
 
 pub tile_length-requires : goal.tile_length-requires
@@ -28,6 +28,10 @@ pub overflow_add-end : goal.overflow_add-end
 overflow_add-end c =
     let told = (rw c.in-Tile.is at c.next.ensures) in
     record { fits = omega (arith, tile_within told, c.tile_length.ensures, c.well_formed.0.0) }
+
+pub slice_bounds-result-end-2 : goal.slice_bounds-result-end-2
+slice_bounds-result-end-2 c =
+    let told = (rw c.in-Tile.is at c.next.ensures) in omega (arith, tile_within told, c.tile_length.ensures)
 
 pub returns : goal.returns
 returns c =
