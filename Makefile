@@ -11,16 +11,13 @@ SHARED = target/shared/libcounterfrost.so.$(VERSION)
 PROGRAM = target/bin/counterfrost
 DIST = counterfrost-$(VERSION)-linux-x86_64
 
-# How many crates, or edits, rt proves at a time: one more than there are cores, so that none is idle while the last of a batch is proved.
-export RT_JOBS ?= $(shell n=$$(nproc); echo $$((n < 4 ? n + 1 : 5)))
-
-# What the archives are built of.
-SOURCES := crates.txt $(shell find crates -name '*.rt' -o -name '*.antt')
+# What the archive and the programs are built of; what rt keeps stands in crates/NAME/out.
+SOURCES := crates.txt $(shell find crates -name out -prune -o \( -name '*.rt' -o -name '*.antt' \) -print)
 # How the tests call the program: by its name, or on another processor by a script that runs it under the emulator.
 CALLED := $(if $(filter x86_64,$(shell uname -m)),$(PROGRAM),tests/run-command)
 
 TARGETS = help list lib install uninstall dist test check face command stack bench reels expected clean
-.PHONY: $(TARGETS) kit target/bin/list
+.PHONY: $(TARGETS) kit
 # Two that prove at once in one folder would get in each other's way.
 .NOTPARALLEL:
 
@@ -59,13 +56,13 @@ dist: lib $(PROGRAM) target/bin/list ## 6 minutes (at once) a tar file with all 
 	@tools/pack "target/dist/$(DIST)"
 	@echo "target/dist/$(DIST).tar.gz"
 
-test: kit ## 15 minutes          the whole gate: all proved from nothing, each wrong program tried, library and command compared; removes target/
+test: kit ## 15 minutes          the whole gate: all proved, each wrong program tried, the programs run, library and command compared
 	@echo "kit: $$(rt version)"
 	@echo "pinned: $$(cat KIT)"
 	@.ci/gate
 
-check: kit ## 6 minutes (at once) proves all crates and runs the programs; with NAME=crate that one, and what it stands on
-	@rt check $(NAME)
+check: kit ## 6 minutes (at once) proves all crates, tries the wrong programs, runs the programs; with NAME=crate that one, and what it stands on
+	@rt ci $(NAME)
 
 face: lib $(PROGRAM) target/bin/list ## half a minute       once all is built: header, examples, installation, tar file, calls, stack
 	@tests/face/run $(ARCHIVE)
@@ -94,24 +91,23 @@ expected: ## seconds             works out again what the programs have to print
 	@python3 tests/expected_worked.py | diff - crates/worked/stdout && echo "crates/worked/stdout is what SPEC asks for"
 	@python3 tests/samples.py
 
-clean: ## at once             removes target/, with all that was proved and built
-	@rm -rf target
+clean: ## at once             removes target/, and what rt keeps in each crate's out/
+	@rm -rf target crates/*/out
 
 kit:
 	@command -v rt >/dev/null || { echo "the command rt of the Rattle kit is not on the path; README.md says what to do without the kit" >&2; exit 2; }
 
-# Proves `list` and builds it, where something has changed since. Standard output is kept for the listing.
-target/bin/list: kit
+target/bin/list: $(SOURCES) | kit
 	@tools/prove list
+	@mkdir -p $(@D) && cp crates/list/out/list $@
 
 $(ARCHIVE): $(SOURCES) | kit
-	@tools/prove --archive counterfrost
+	@tools/prove counterfrost
+	@mkdir -p $(@D) && cp crates/counterfrost/out/libcounterfrost.a $@
 
-target/staticlib/libcommand.a: $(SOURCES) | kit
-	@tools/prove --archive command
-
-$(PROGRAM): target/staticlib/libcommand.a tools/link-command
-	@tools/link-command $< $@
+$(PROGRAM): $(SOURCES) | kit
+	@tools/prove command
+	@mkdir -p $(@D) && cp crates/command/out/command $@
 
 $(SHARED): $(ARCHIVE) packaging/exports
 	@tools/share $(ARCHIVE) $@ $(SONAME)

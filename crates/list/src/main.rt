@@ -4,7 +4,12 @@
 ghost use Rattle.std.specs.Prelude.{◌≡◌, length};
 ghost use Rattle.list.specs.Input.{Within};
 
-use libc::{STDERR_FILENO, STDIN_FILENO, STDOUT_FILENO};
+use std::io::{Read, Stdin};
+
+// The numbers that the system knows its two outputs by.
+const STANDARD_OUTPUT: i32 = 1;
+
+const STANDARD_ERROR: i32 = 2;
 
 // What was read: the whole input, of so many bytes; more bytes than a reel may have; or less than the input, since a read failed.
 #[derive(Drop)]
@@ -22,16 +27,14 @@ fn room() -> [u8; 65537]
 }
 
 // Reads the input until it ends, a read fails, or there is no room left.
-fn read(room: &mut [u8]) -> Input
+fn read(mut input: Stdin, room: &mut [u8]) -> Input
     ensures { Within (length room.new) result }
 {
     let mut n = 0;
     while n < room.len() {
-        let got = libc::read(STDIN_FILENO, &mut room[n..]);
-        if got < 0 {
+        let Ok(more) = input.read(&mut room[n..]) else {
             return Input::Failed;
-        }
-        let more = io::count(got, &room[n..]);
+        };
         if more == 0 {
             return Input::Whole(n);
         }
@@ -42,7 +45,7 @@ fn read(room: &mut [u8]) -> Input
 
 // Words on standard error. Where they cannot be written either, nobody is left to tell.
 fn complain(words: &[u8]) {
-    io::write_all(STDERR_FILENO, words);
+    io::write_all(STANDARD_ERROR, words);
 }
 
 // Says so where something was not written.
@@ -52,12 +55,12 @@ fn report(is_written: bool) {
     }
 }
 
-fn main() {
+fn main(rt: HostRuntime) {
     let mut bytes = room();
-    let input = read(&mut bytes);
+    let input = read(rt.stdin(), &mut bytes);
     match input {
         Input::Whole(n) => report(listing::print(&bytes[..n])),
-        Input::TooLong => report(io::write_all(STDOUT_FILENO, b"too long\n")),
+        Input::TooLong => report(io::write_all(STANDARD_OUTPUT, b"too long\n")),
         Input::Failed => complain(b"counterfrost-list: the input could not be read\n"),
     }
 }

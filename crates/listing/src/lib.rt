@@ -10,9 +10,11 @@ ghost use Rattle.listing.specs.Listing.{RestoreSays, TileListed, Closes};
 ghost use Rattle.listing.specs.Reached.{Reached};
 
 pub use lettering::line;
-use libc::STDOUT_FILENO;
 use promise::Restored;
 use reel::{Found, Tile};
+
+// The number that the system knows standard output by.
+const STANDARD_OUTPUT: i32 = 1;
 
 // What comes of restoring a tile's bytes, which stay as they are: a copy of them is restored.
 fn state(tile: Tile, bytes: &[u8], copy: &mut [u8]) -> Restored
@@ -20,7 +22,7 @@ fn state(tile: Tile, bytes: &[u8], copy: &mut [u8]) -> Restored
     ensures { RestoreSays tile bytes.now (restore_said result) }
 {
     let n = bytes.len();
-    bytes::copy(bytes, copy);
+    copy[..n].copy_from_slice(bytes);
     let kind = tile.kind;
     let first = tile.first;
     let second = tile.second;
@@ -58,7 +60,7 @@ fn write(line: line::Line) -> bool
 {
     let bytes = line.bytes;
     let length = line.length;
-    io::write_all(STDOUT_FILENO, &bytes[..length])
+    io::write_all(STANDARD_OUTPUT, &bytes[..length])
 }
 
 // Lists a reel, with room for a copy of the largest tile.

@@ -2,20 +2,22 @@
 // then finds the text missing.
 use code::{Kind, Line};
 use flag::Flag;
-use libc::STDOUT_FILENO;
 use promise::{Outcome, Repaired};
 use reel::Found;
 use sheet::Corrected;
 use size::Refusal;
 
+// The number that the system knows standard output by.
+const STANDARD_OUTPUT: i32 = 1;
+
 pub fn words(text: &[u8]) {
-    io::write_all(STDOUT_FILENO, text);
+    io::write_all(STANDARD_OUTPUT, text);
 }
 
 pub fn count(word: &[u8], n: usize) {
     words(word);
     words(b" ");
-    io::print_decimal(STDOUT_FILENO, n as u64);
+    io::print_decimal(STANDARD_OUTPUT, n as u64);
 }
 
 pub fn bytes(list: &[u8]) {
@@ -23,7 +25,7 @@ pub fn bytes(list: &[u8]) {
     let mut k = 0;
     while k < list.len() {
         words(b" ");
-        io::print_hex(STDOUT_FILENO, wide(list[k]), 2);
+        io::print_hex(STANDARD_OUTPUT, wide(list[k]), 2);
         k += 1;
     }
 }

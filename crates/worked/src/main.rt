@@ -2,21 +2,37 @@
 // to be answered is worked out by tests/expected_worked.py, without this program.
 #![tactic(auto)]
 
+ghost use Rattle.std.specs.Prelude.{◌≤◌, length};
+
 mod ask;
 
-use libc::STDIN_FILENO;
 use script::{answer, question};
+
+// The number that the system knows standard input by.
+const STANDARD_INPUT: i32 = 0;
 
 fn main() {
     let mut script = io::large_buffer();
-    let n = io::read_full(STDIN_FILENO, &mut script);
+    let n = io::read_full(STANDARD_INPUT, &mut script);
     run(&script[..n]);
+}
+
+// Where a sign stands first, from a place on; the end, where it stands nowhere.
+fn find(text: &[u8], from: usize, sign: u8) -> usize
+    requires { from ≤ length text.now }
+    ensures low { from ≤ result }
+    ensures high { result ≤ length text.now }
+{
+    match text[from..].iter().position(|one| *one == sign) {
+        Some(n) => from + n,
+        None => text.len(),
+    }
 }
 
 fn run(script: &[u8]) {
     let mut at = 0;
     while at < script.len() {
-        let end = bytes::scan::find(script, at, script.len(), b'\n');
+        let end = find(script, at, b'\n');
         let line = &script[at..end];
         answer::words(line);
         obey(line);
@@ -34,7 +50,7 @@ fn obey(line: &[u8]) {
     if line[question::COLUMNS - 1] != b':' {
         return;
     }
-    let end = bytes::scan::find(line, question::COLUMNS, line.len(), b':');
+    let end = find(line, question::COLUMNS, b':');
     let mut first = io::buffer();
     let mut second = io::buffer();
     let held = question::lay(&line[question::COLUMNS - 1..end], &mut first);
