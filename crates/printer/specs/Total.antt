@@ -31,6 +31,7 @@ module _ (h : Header) (tile room : List ℕ) (less : h.number < 4294967296) wher
   by_length j (no d) = (refused 3, room, refuses (no_length j d))
 
   by_judgement : (said : size.Said) → size.Judged (kind_of h.mark) h.p h.l said → Outcome
+  by_judgement (size.slope _) j = elim j [ ]
   by_judgement size.well j = by_length j (ℕ_discrete (length tile) (tile_length h.p))
   by_judgement (size.refused n) j = (refused n, room, refuses (judged j))
 

@@ -1,6 +1,7 @@
 // Puts the record of a tile together, as the reel reads it.
 #![tactic(auto)]
 
+ghost use Rattle.std.specs.Prelude.{◌≡◌, ◌++◌, ◌≤◌, length, take, drop};
 ghost use Rattle.printer.specs.Lay.{laid_said, LayTold};
 
 use header::Header;
@@ -30,10 +31,19 @@ pub fn lay(header: Header, tile: &[u8], room: &mut [u8]) -> Laid
                 Laid::Refused(Refusal::TooSmall)
             } else {
                 let bytes = header::bytes(header);
-                bytes::copy(&bytes[..start], room);
-                bytes::copy(tile, &mut room[start..]);
+                copy(&bytes[..start], room);
+                copy(tile, &mut room[start..]);
                 Laid::Record(end)
             }
         }
     }
+}
+
+// Copies bytes to the start of others, of which there are as many or more.
+fn copy(from: &[u8], to: &mut [u8])
+    requires { length from.now ≤ length to.old }
+    ensures len { length to.new ≡ length to.old }
+    ensures copied { to.new ≡ take (length from.now) from.now ++ drop (length from.now) to.old }
+{
+    to[..from.len()].copy_from_slice(from);
 }

@@ -1,9 +1,9 @@
 -- How a sheet is judged, record by record. Assumes nothing.
 use Rattle.std.specs.Prelude.{◌≡◌, List, ℕ, ◌+◌, ◌*◌, ◌<◌, eqb, get_or}
-use Rattle.std.proofs.Common.{ap, arith, below_more}
+use Rattle.std.proofs.Common.{refl, ap, arith, below_more}
 use Rattle.record.specs.Number.{big_endian}
 use Rattle.code.specs.Says.{Says, says_equal}
-use Rattle.sheet.specs.Sheet.{records, byte_of, Marked, Placed, SoundBelow}
+use Rattle.sheet.specs.Sheet.{records, byte_of, Whole, Marked, Placed, SoundBelow}
 use Rattle.sheet.specs.Answer.{corrected}
 use Rattle.sheet.specs.Calls.{Judged, sound}
 
@@ -24,6 +24,10 @@ sound_none p sheet k h = omega arith
 pub sound_more : (p : ℕ) (sheet : List ℕ) (n : ℕ) → SoundBelow p sheet n → Marked sheet n → Placed p sheet n → SoundBelow p sheet (n + 1)
 sound_more p sheet n before m h = below_more (λ k. Marked sheet k × Placed p sheet k) n before (m, h)
 
+-- a sheet that is taken has whole records, all of which count, and none is faulty
+pub judged_count : {p : ℕ} (sheet : List ℕ) (n : ℕ) → Judged p sheet (corrected n) → (n ≡ records sheet) × Whole sheet × SoundBelow p sheet (records sheet)
+judged_count sheet n (sound w h) = (refl, w, h)
+
 -- a sheet that is taken has no faulty record
 pub judged_sound : {p n : ℕ} {sheet : List ℕ} → Judged p sheet (corrected n) → SoundBelow p sheet (records sheet)
-judged_sound (sound w h) = h
+judged_sound {p = p} {n = n} {sheet = sheet} j = (judged_count sheet n j).2

@@ -22,7 +22,7 @@ use Rattle.promise.specs.Recovered.{recover_inspects, recovered_text}
 use Rattle.sheet.specs.Sheet.{records, is_of, given, differences, Whole, Placed, SoundBelow}
 use Rattle.sheet.specs.Answer.{Said, corrected, refused}
 use Rattle.sheet.specs.Calls.{sound, Corrects, CorrectTold}
-use Rattle.sheet.specs.Judge.{judged_sound}
+use Rattle.sheet.specs.Judge.{judged_count, judged_sound}
 use Rattle.sheet.specs.Make.{given_none, given_off, differences_at}
 use Rattle.sheet.specs.Once.{judged_told_once, correct_told_once}
 use Rattle.sheet.specs.Last.{NoneFrom, Follows, Last, last_made}
@@ -41,7 +41,7 @@ correct_takes kind p l tile sheet said new s w e whole below told = go told
 
 -- the count that is answered is an eighth of the sheet's length
 pub count_tied : {kind : Kind} {p l n : ℕ} {tile sheet new : List ℕ} → CorrectTold kind p l tile sheet (corrected n) new → 8 * n ≡ length sheet
-count_tied (CorrectTold.corrects h (sound w below) c) = omega arith
+count_tied (CorrectTold.corrects h j c) = let t = judged_count _ _ j in omega (arith, t.0, t.1)
 
 -- a refused correction leaves the tile
 pub correct_refused : {kind : Kind} {p l n at : ℕ} {tile sheet new : List ℕ} → CorrectTold kind p l tile sheet (refused n at) new → new ≡ tile

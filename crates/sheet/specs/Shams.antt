@@ -6,7 +6,8 @@ use Rattle.promise.specs.Worked.{zeros, tile_1, tile_4, copied_1}
 use Rattle.promise.specs.Shams.{wrong_answer, wrong_bytes}
 use Rattle.sheet.specs.Sheet.{records}
 use Rattle.sheet.specs.Answer.{Said, corrected, refused}
-use Rattle.sheet.specs.Calls.{sound, CorrectTold}
+use Rattle.sheet.specs.Judge.{judged_count}
+use Rattle.sheet.specs.Calls.{CorrectTold}
 use Rattle.sheet.specs.Worked.{sheet_11, sheet_two, hurt_cell, claimed, other_claimed}
 
 -- a sheet that leaves the tile as it was
@@ -19,7 +20,7 @@ first_record_alone k said = wrong_bytes (CorrectTold k 5 2 zeros sheet_two) ((ot
 
 -- an invented count, whatever the sheet and the tile
 pub invented_count : (k : Kind) (p l n : ℕ) (tile sheet new : List ℕ) → (n ≡ records sheet → ⊥) → CorrectTold k p l tile sheet (corrected n) new → ⊥
-invented_count k p l n tile sheet new d (CorrectTold.corrects h (sound w s) c) = d refl
+invented_count k p l n tile sheet new d (CorrectTold.corrects h j c) = d (judged_count sheet n j).0
 
 -- one that touches the cells and leaves the checks
 pub leaves_checks : (k : Kind) (said : Said) → CorrectTold k 5 2 zeros sheet_11 said copied_1 → ⊥

@@ -19,7 +19,7 @@ loop-k-init c =
 
 pub returns-then-not-next : goal.returns-then-not-next
 returns-then-not-next c =
-    no_mark {k = c.loop-k.k} c.loop-k.invariant.0 (omega arith) c.loop-k.invariant.2 (says_false {b = c.nth-next.result.marked} c.nth-next.ensures.says c.if-not-next.true)
+    no_mark {k = c.loop-k.k} c.loop-k.invariant.0 (omega arith) c.loop-k.invariant.2 (says_false {b = c.nth-next.result.marked} c.nth-next.ensures.says (not-true c.nth-next.result.marked c.if-not-next.true))
 
 pub has_place-requires : goal.has_place-requires
 has_place-requires c =
@@ -27,7 +27,7 @@ has_place-requires c =
 
 pub returns-then-not-has_place : goal.returns-then-not-has_place
 returns-then-not-has_place c =
-    no_place {k = c.loop-k.k} c.loop-k.invariant.0 (omega arith) c.loop-k.invariant.2 (says_true {b = c.nth-next.result.marked} c.nth-next.ensures.says c.if-not-next.false)
+    no_place {k = c.loop-k.k} c.loop-k.invariant.0 (omega arith) c.loop-k.invariant.2 (says_true {b = c.nth-next.result.marked} c.nth-next.ensures.says (not-false c.nth-next.result.marked c.if-not-next.false))
     (says_false {b = c.has_place.result} (rw (c.nth-next.ensures.names.0, c.nth-next.ensures.names.1) at c.has_place.ensures) c.if-not-has_place.true)
 
 pub loop-k-preserved : goal.loop-k-preserved
@@ -36,7 +36,7 @@ loop-k-preserved c =
       c.loop-k.invariant.0,
       omega arith,
       sound_more c.args.p c.args.sheet.now c.loop-k.k c.loop-k.invariant.2
-          (says_true {b = c.nth-next.result.marked} c.nth-next.ensures.says c.if-not-next.false)
+          (says_true {b = c.nth-next.result.marked} c.nth-next.ensures.says (not-false c.nth-next.result.marked c.if-not-next.false))
           (says_true {b = c.has_place.result} (rw (c.nth-next.ensures.names.0, c.nth-next.ensures.names.1) at c.has_place.ensures) c.if-not-has_place.false),
     )
 
