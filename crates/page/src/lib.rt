@@ -1,7 +1,7 @@
 // Words and numbers on a page, one behind the other. Each call is told where what stands there ends, and answers where it ends now.
 #![tactic(auto)]
 
-ghost use Rattle.std.specs.Prelude.{◌≡◌, ◌+◌, ◌≤◌, ◌<◌, length, get_or};
+ghost use Rattle.std.specs.Prelude.{◌≡◌, ◌+◌, ◌≤◌, ◌<◌, ◌++◌, length, get_or, take, drop};
 ghost use Rattle.lettering.specs.Line.{decimal};
 ghost use Rattle.page.specs.Page.{Puts, right_aligned, taken, sign_filled, filled, sign_room, room};
 
@@ -13,8 +13,17 @@ pub fn put(page: &mut [u8], at: usize, words: &[u8]) -> usize
     requires { at + length words.now ≤ length page.old }
     ensures { Puts page.old at words.now result page.new }
 {
-    bytes::copy(words, &mut page[at..]);
+    copy(words, &mut page[at..]);
     at + words.len()
+}
+
+// Copies bytes to the start of others, of which there are as many or more.
+fn copy(from: &[u8], to: &mut [u8])
+    requires { length from.now ≤ length to.old }
+    ensures len { length to.new ≡ length to.old }
+    ensures copied { to.new ≡ take (length from.now) from.now ++ drop (length from.now) to.old }
+{
+    to[..from.len()].copy_from_slice(from);
 }
 
 // Puts a number on the page, in decimal.

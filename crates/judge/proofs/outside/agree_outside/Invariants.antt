@@ -1,5 +1,4 @@
 -- `judge::outside::agree_outside` meets its contract. The loop's invariant: each column passed has no mark, or is one of the two lines.
---
 use mathlib.Core.Path.{◌≡◌}
 use mathlib.Core.Logic.{◌⊎◌, inl, inr, ⊎_elim}
 use Prim.Native.Nat.{ℕ, ◌-◌, ◌≤◌, ◌<◌}

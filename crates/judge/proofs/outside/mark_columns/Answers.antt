@@ -9,6 +9,7 @@ use Rattle.code.specs.Place.{row_lt}
 use Rattle.code.specs.Says.{says_true, says_false}
 use Rattle.judge.specs.Outside.{RowsMarked, rows_none, rows_passed, rows_more}
 use Rattle.judge.proofs.outside.mark_columns.Goals as goal
+use Rattle.judge.proofs.outside.mark_columns.Goals.{then-not-is_one_of, else-not-is_one_of}
 
 pub loop-i-init : goal.loop-i-init
 loop-i-init c =
@@ -29,10 +30,10 @@ pub loop-i-preserved : goal.loop-i-preserved
 loop-i-preserved c =
     (
       omega arith,
-      ⊎_elim
-          (λ w. rw w.3 (rows_more (omega arith) (says_false c.is_one_of.ensures (not-true c.is_one_of.result w.0.taken)) w.2.ensures c.loop-i.invariant.1))
-          (λ w. rw w.1 (rows_passed (says_true c.is_one_of.ensures (not-false c.is_one_of.result w.0.left)) c.loop-i.invariant.1))
-          c.if-not-is_one_of.branch,
+      elim c.if-not-is_one_of.branch [
+        then-not-is_one_of w ↦ rw w.marks-is (rows_more (omega arith) (says_false c.is_one_of.ensures w.if-not-is_one_of.true) w.mark_row.ensures c.loop-i.invariant.1)
+        | else-not-is_one_of w ↦ rw w.marks-is (rows_passed (says_true c.is_one_of.ensures w.if-not-is_one_of.false) c.loop-i.invariant.1)
+      ],
     )
 
 pub returns : goal.returns

@@ -5,6 +5,7 @@ use Prim.Native.Nat.{◌-◌, ◌≤◌}
 use native.Mathlib.Omega.{arith}
 use Rattle.judge.specs.Outside.{RowMarked, row_none, row_more}
 use Rattle.judge.proofs.outside.mark_row.Goals as goal
+use Rattle.judge.proofs.outside.mark_row.Goals.{then-scan-start, else-scan-start}
 
 pub loop-k-init : goal.loop-k-init
 loop-k-init c =
@@ -12,7 +13,7 @@ loop-k-init c =
 
 pub loop-k-preserved : goal.loop-k-preserved
 loop-k-preserved c =
-    (omega arith, row_more c.if-scan-start.marks (omega arith) (⊎_elim (λ w. inl (w.0.taken, w.1)) (λ w. inr (w.0.left, w.1)) c.if-scan-start.branch) c.loop-k.invariant.1)
+    (omega arith, row_more c.if-scan-start.marks (omega arith) (elim c.if-scan-start.branch [ then-scan-start w ↦ inl (w.if-scan-start.true, w.marks-is) | else-scan-start w ↦ inr (w.if-scan-start.false, w.marks-is) ]) c.loop-k.invariant.1)
 
 pub returns : goal.returns
 returns c =

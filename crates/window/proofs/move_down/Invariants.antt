@@ -1,0 +1,15 @@
+-- `window::move_down` meets its contract.
+use mathlib.Core.Path.{◌≡◌, ◌∙◌}
+use Prim.Native.Nat.{◌+◌, ◌-◌, ◌≤◌, ◌<◌}
+use native.Mathlib.Omega.{arith}
+use lib.ListN.{length, drop, length-set}
+use lib.Seq.{paste-zero}
+use borrow.Author.Rules.{rules}
+use Rattle.window.specs.Going.{moved_down, moved_one}
+use Rattle.window.proofs.move_down.Given as goal
+
+abbrev pub invariant-loop-i : goal.invariant-loop-i
+invariant-loop-i l = (l.window ≡ moved_down l.initial.window l.from l.k) × (l.i ≡ l.from + l.k) × (l.k ≤ length l.initial.window - l.from) × (length l.window ≡ length l.initial.window)
+
+abbrev pub decreases-loop-i : goal.decreases-loop-i
+decreases-loop-i l = length l.initial.window - l.i

@@ -1,0 +1,16 @@
+-- `window::seek` meets its contract: each tile that it passes shortens what is left.
+use lib.ListN.{length}
+use Prim.Native.Nat.{◌-◌}
+use native.Mathlib.Omega.{arith}
+use borrow.Author.Rules.{rules}
+use Rattle.reel.specs.Told.{tile_taken, tile_within}
+use Rattle.reel.specs.Walks.{moves_on}
+use Rattle.window.specs.Window.{comes}
+use Rattle.window.specs.Going.{Seeking, seeking_first, seeking_on, looked_tile}
+use Rattle.window.proofs.seek.Given as goal
+
+abbrev pub invariant-loop-tile : goal.invariant-loop-tile
+invariant-loop-tile l = Seeking l.window l.last l.number l.from l.tiles l.place l.passed
+
+abbrev pub decreases-loop-tile : goal.decreases-loop-tile
+decreases-loop-tile l = length l.window - l.place
