@@ -1,0 +1,9 @@
+-- `picture::corrected` meets its contract.
+use borrow.Author.Rules.{rules}
+use Rattle.picture.specs.Picture.{corrected_line}
+use Rattle.picture.proofs.corrected.Goals as goal
+
+pub returns : goal.returns
+unfolding corrected_line
+returns c =
+    c.put_form.ensures.puts

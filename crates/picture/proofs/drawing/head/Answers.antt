@@ -1,0 +1,9 @@
+-- `picture::drawing::head` meets its contract.
+use borrow.Author.Rules.{rules}
+use Rattle.picture.specs.Picture.{head}
+use Rattle.picture.proofs.drawing.head.Goals as goal
+
+pub returns : goal.returns
+unfolding head
+returns c =
+    c.put_form.ensures.puts
