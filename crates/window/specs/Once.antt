@@ -71,6 +71,7 @@ seek_once x y = same_search refl x y
 -- ---- one tile
 
 why_once : (said : reel.Said) {m n : ℕ} → reel.NoTile said → WhyNot said m → WhyNot said n → m ≡ n
+why_once (reel.tile _) {m = m} {n = n} none x y = elim none [ ]
 why_once reel.end none x y = x ∙ sym y
 why_once (reel.refused k from) none x y = x ∙ sym y
 

@@ -19,17 +19,17 @@ slice_bounds-number-start c =
 pub returns-in-Is : goal.returns-in-Is
 returns-in-Is c =
     let begun = says_true c.begins.ensures c.if-begins.true in
-    row (number_behind (ascii "row:") _ _ begun (rw c.in-Is.is c c.number.ensures))
+    row (number_behind (ascii "row:") _ _ begun (rw c.in-Is.is at c.number.ensures))
 
 pub returns-in-TooLarge : goal.returns-in-TooLarge
 returns-in-TooLarge c =
     let begun = says_true c.begins.ensures c.if-begins.true in
-    no_row _ begun (large_no (rw c.in-TooLarge.is c c.number.ensures))
+    no_row _ begun (large_no (rw c.in-TooLarge.is at c.number.ensures))
 
 pub returns-in-No : goal.returns-in-No
 returns-in-No c =
     let begun = says_true c.begins.ensures c.if-begins.true in
-    no_row _ begun (word_no (rw c.in-No.is c c.number.ensures))
+    no_row _ begun (word_no (rw c.in-No.is at c.number.ensures))
 
 pub slice_bounds-number-count-then-begins-2 : goal.slice_bounds-number-count-then-begins-2
 slice_bounds-number-count-then-begins-2 c =
@@ -42,17 +42,17 @@ slice_bounds-number-start-then-begins-2 c =
 pub returns-in-Is-number : goal.returns-in-Is-number
 returns-in-Is-number c =
     let begun = says_true c.begins-2.ensures c.if-begins-2.true in
-    column (number_behind (ascii "column:") _ _ begun (rw c.in-Is-number.is c c.number-then-begins-2.ensures))
+    column (number_behind (ascii "column:") _ _ begun (rw c.in-Is-number.is at c.number-then-begins-2.ensures))
 
 pub returns-in-TooLarge-number : goal.returns-in-TooLarge-number
 returns-in-TooLarge-number c =
     let begun = says_true c.begins-2.ensures c.if-begins-2.true in
-    no_column _ begun (large_no (rw c.in-TooLarge-number.is c c.number-then-begins-2.ensures))
+    no_column _ begun (large_no (rw c.in-TooLarge-number.is at c.number-then-begins-2.ensures))
 
 pub returns-in-No-number : goal.returns-in-No-number
 returns-in-No-number c =
     let begun = says_true c.begins-2.ensures c.if-begins-2.true in
-    no_column _ begun (word_no (rw c.in-No-number.is c c.number-then-begins-2.ensures))
+    no_column _ begun (word_no (rw c.in-No-number.is at c.number-then-begins-2.ensures))
 
 pub returns : goal.returns
 returns c =

@@ -7,6 +7,7 @@ use lib.ListN.{length}
 use borrow.Author.Rules.{rules}
 use Rattle.words.specs.Digits.{Held, held_first, held_more, is_value, is_large, not_digit, empty}
 use Rattle.words.proofs.number.Goals as goal
+use Rattle.words.proofs.number.Goals.{then-n-le-LARGEST, else-n-le-LARGEST}
 
 pub returns-then-word-eq0 : goal.returns-then-word-eq0
 returns-then-word-eq0 c =
@@ -34,8 +35,8 @@ loop-i-preserved c =
     c.loop-i.invariant
     c.loop-i-test.true
     (omega arith, omega arith)
-    (λ h. ⊎_elim (λ w. omega arith) (λ w. omega arith) c.if-n-le-LARGEST.branch)
-    (λ h. ⊎_elim (λ w. omega arith) (λ w. omega arith) c.if-n-le-LARGEST.branch)
+    (λ h. elim c.if-n-le-LARGEST.branch [ then-n-le-LARGEST w ↦ omega arith | else-n-le-LARGEST w ↦ omega arith ])
+    (λ h. elim c.if-n-le-LARGEST.branch [ then-n-le-LARGEST w ↦ omega arith | else-n-le-LARGEST w ↦ omega arith ])
 
 pub returns-then-n-gt-LARGEST : goal.returns-then-n-gt-LARGEST
 returns-then-n-gt-LARGEST c =

@@ -18,7 +18,7 @@ returns-in-Map c =
 
 pub returns-in_default : goal.returns-in_default
 returns-in_default c =
-    rw c.in-Text.is (no_text _ c.in_default.KEYS)
+    rw c.in-Text.is (no_text _ c.in_default.not-Map)
 
 pub returns-in-Repair : goal.returns-in-Repair
 returns-in-Repair c =
@@ -38,4 +38,4 @@ returns-in-Correct c =
 
 pub returns-in_default-verb : goal.returns-in_default-verb
 returns-in_default-verb c =
-    rw c.in-Force.is (no_force _ c.in_default-verb.in_default-verb-own.keys5)
+    rw c.in-Force.is (let d = c.in_default-verb in no_force _ d.not-Repair d.not-Write d.not-Fill d.not-Correct)

@@ -13,7 +13,7 @@ use Rattle.window.proofs.one.correct.Goals as goal
 
 pub returns-in_default : goal.returns-in_default
 returns-in_default c =
-    no_tile c.next-found.ensures (none_there c.next-found.result c.in_default.KEYS) c.why.ensures
+    no_tile c.next-found.ensures (none_there c.next-found.result c.in_default.not-Tile) c.why.ensures
 
 pub behind-end-requires : goal.behind-end-requires
 behind-end-requires c =
