@@ -1,0 +1,27 @@
+-- `listing::closing_line` meets its contract.
+use native.Mathlib.Omega.{arith}
+use Rattle.reel.specs.Told.{refusal_stays}
+use Rattle.listing.specs.Reached.{reached_ends, reached_stops}
+use Rattle.listing.proofs.Other.{is_end}
+use borrow.Author.Rules.{rules}
+use Rattle.listing.proofs.closing_line.Goals as goal
+
+pub returns-in_default : goal.returns-in_default
+returns-in_default c =
+    let args = c.args in
+    let told = rw (is_end args.found c.in_default.not-Refused c.requires.next_told.1) at c.requires.next_told.0 in
+    record {
+      closes = rw c.end_line.ensures.is (reached_ends c.requires.reached told);
+      length_in_bounds = c.end_line.ensures.within;
+    }
+
+pub overflow_add-reel : goal.overflow_add-reel
+overflow_add-reel c =
+    omega (arith, refusal_stays (rw c.in-Refused.is at c.requires.next_told.0))
+
+pub returns : goal.returns
+returns c =
+    record {
+      closes = rw c.stopped_line.ensures.is (reached_stops c.requires.reached (rw c.in-Refused.is at c.requires.next_told.0));
+      length_in_bounds = c.stopped_line.ensures.within;
+    }
