@@ -212,7 +212,7 @@ pub enum Second {
 }
 
 // How a reel can be read a second time.
-pub fn second(rt: &HostRuntime, from: &Source) -> Second {
+pub fn again(rt: &HostRuntime, from: &Source) -> Second {
     match from {
         Source::Standard(stdin) => second_standard(rt, *stdin),
         Source::Named(file) => {
@@ -295,7 +295,7 @@ struct Unnamed {
 
 // Keeps what can be read but once in a file that has no name any more, and answers it, at its first byte; or says what failed.
 pub fn kept(rt: &HostRuntime, from: &Source, name: &[u8], window: &mut [u8]) -> Option<Source> {
-    let made = match unnamed(rt) {
+    let made = match make_unnamed(rt) {
         Ok(made) => made,
         Err(error) => {
             say::failed(rt, UNNAMED, error);
@@ -312,7 +312,7 @@ pub fn kept(rt: &HostRuntime, from: &Source, name: &[u8], window: &mut [u8]) -> 
 }
 
 // Makes a file that only this user may read, and takes its name away.
-fn unnamed(rt: &HostRuntime) -> Result<Unnamed, Error> {
+fn make_unnamed(rt: &HostRuntime) -> Result<Unnamed, Error> {
     let mut how = OpenOptions::new();
     how.read(true).write(true).create_new(true).mode(0o600);
     for _ in 0..TRIES {

@@ -375,7 +375,7 @@ fn drawn(rt: &HostRuntime, from: &Source, reel: &[u8], window: &mut [u8], page: 
     requires { 4096 ≤ length page.old }
     ensures { Exit result }
 {
-    match input::second(rt, from) {
+    match input::again(rt, from) {
         Second::From(place) => drawn_from(rt, from, place, reel, window, page),
         Second::By(other) => drawn_by(rt, &other, from, reel, window, page),
         Second::No => match input::kept(rt, from, reel, window) {
