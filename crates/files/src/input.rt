@@ -7,9 +7,9 @@ use crate::copy::Copying;
 use crate::{asked, copy, say};
 use std::fmt::InlineText;
 use std::fs;
-use std::fs::{File, OpenOptions};
+use std::fs::{File, Metadata, OpenOptions};
 use std::io::{Error, ErrorKind, Read, Seek, SeekFrom, Stdin};
-use std::os::fd::AsFd;
+use std::os::fd::{AsFd, AsRawFd};
 use std::os::unix::fs::{FileTypeExt, OpenOptionsExt};
 use std::random::RandomSource;
 
@@ -238,9 +238,30 @@ fn second_standard(rt: &HostRuntime, stdin: Stdin) -> Second {
     }
 }
 
+// What the system tells of the file that standard input reads.
+fn standard_metadata(rt: &HostRuntime) -> Result<Metadata, Error> {
+    fs::metadata(rt, STANDARD_INPUT)
+}
+
+// What the system tells of the file that is read.
+pub fn metadata(rt: &HostRuntime, from: &Source) -> Result<Metadata, Error> {
+    match from {
+        Source::Standard(_) => standard_metadata(rt),
+        Source::Named(file) => file.metadata(),
+    }
+}
+
+// The number under which it is open.
+pub fn number(from: &Source) -> i32 {
+    match from {
+        Source::Standard(stdin) => stdin.as_raw_fd(),
+        Source::Named(file) => file.as_raw_fd(),
+    }
+}
+
 // Opens what standard input reads, and goes to the place where that stands.
 fn opened_again(rt: &HostRuntime) -> Result<File, Error> {
-    let found = fs::metadata(rt, STANDARD_INPUT)?;
+    let found = standard_metadata(rt)?;
     if found.file_type().is_fifo() {
         return Err(Error::from(ErrorKind::NotSeekable));
     }

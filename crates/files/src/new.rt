@@ -10,6 +10,7 @@ use std::fs;
 use std::fs::{File, OpenOptions};
 use std::io::{Error, ErrorKind};
 use std::os::fd::AsRawFd;
+use std::os::unix::fs::MetadataExt;
 use std::path::PathBuf;
 
 // Puts the name of what is written into a buffer, and answers its length.
@@ -80,12 +81,22 @@ fn opened(rt: &HostRuntime, name: &[u8], force: bool) -> Result<File, Error> {
 
 // Does the system know the reel and a file by the same name?
 fn is_same(rt: &HostRuntime, reel: &Source, file: &File) -> bool {
-    let number = match reel {
-        Source::Standard(stdin) => stdin.as_raw_fd(),
-        Source::Named(named) => named.as_raw_fd(),
-    };
-    match (name_of(rt, number), name_of(rt, file.as_raw_fd())) {
+    let one = name_of(rt, input::number(reel));
+    let other = name_of(rt, file.as_raw_fd());
+    match (one, other) {
         (Ok(one), Ok(other)) => words::is(one.as_str().as_bytes(), other.as_str().as_bytes()),
+        (Err(error), _) => may_be_same(rt, reel, file, error),
+        (_, Err(error)) => may_be_same(rt, reel, file, error),
+    }
+}
+
+// The same where the system did not tell both names. If one is no UTF-8, they may be the same only if both are one file.
+fn may_be_same(rt: &HostRuntime, reel: &Source, file: &File, error: Error) -> bool {
+    if error.kind() != ErrorKind::InvalidFilename {
+        return true;
+    }
+    match (input::metadata(rt, reel), file.metadata()) {
+        (Ok(one), Ok(other)) => one.dev() == other.dev() && one.ino() == other.ino(),
         _ => true,
     }
 }
