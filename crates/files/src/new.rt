@@ -3,8 +3,15 @@
 ghost use Rattle.io.specs.Counts.{IsPrefixLen};
 ghost use Rattle.files.specs.Exit.{Exit};
 
+use crate::input::Source;
 use crate::{input, say};
-use libc::STDIN_FILENO;
+use std::fmt::InlineText;
+use std::fs;
+use std::fs::{File, OpenOptions};
+use std::io::{Error, ErrorKind};
+use std::os::fd::AsRawFd;
+use std::os::unix::fs::MetadataExt;
+use std::path::PathBuf;
 
 // Puts the name of what is written into a buffer, and answers its length.
 pub fn part(new: &[u8], part: &mut [u8]) -> usize
@@ -17,162 +24,197 @@ pub fn part(new: &[u8], part: &mut [u8]) -> usize
 
 // Puts words behind the first bytes of a buffer, as far as there is room.
 fn append(to: &mut [u8], at: usize, words: &[u8]) -> usize {
-    let mut k = 0;
     let mut i = at;
-    while k < words.len() {
+    for word in words {
         if i >= to.len() {
             break;
         }
-        to[i] = words[k];
+        to[i] = *word;
         i += 1;
-        k += 1;
     }
     i
 }
 
-// What a link says, if the name is that of a link; and what errno says, if not.
-fn linked(name: &[u8], text: &mut [u8]) -> isize {
-    let mut path = io::buffer();
-    append(&mut path, 0, name);
-    path[4095] = 0;
-    libc::readlink(&path, text)
-}
-
-// Is something there under the name? Nothing is opened for that: a link tells what it says, and of anything else errno tells that it is no
-// link. Where the system says something else, whoever makes the file will be told.
-fn is_there(name: &[u8]) -> bool {
-    let mut text = io::buffer();
-    if linked(name, &mut text) >= 0 {
-        return true;
+// Is something there under the name, a link that leads nowhere too? Nothing is opened for that. Where the system says something else, whoever
+// makes the file will be told.
+fn is_there(rt: &HostRuntime, name: &[u8]) -> bool {
+    match input::path(name) {
+        Ok(path) => fs::symlink_metadata(rt, path).is_ok(),
+        Err(_) => false,
     }
-    os::errno() == libc::EINVAL
 }
 
-// The name by which the system knows what a descriptor reads, or nothing.
-fn name_of(fd: i32, name: &mut [u8]) -> usize
-    ensures { IsPrefixLen result name.new }
-{
-    let mut link = io::buffer();
-    let n = append(&mut link, 0, b"/proc/self/fd/");
-    let m = append_number(&mut link, n, fd);
-    let length = say::at_most(m, &link);
-    let got = linked(&link[..length], name);
-    io::count(got, name)
-}
-
-// Puts a number behind the first bytes of a buffer.
-fn append_number(to: &mut [u8], at: usize, n: i32) -> usize {
-    if n < 0 {
-        return at;
-    }
-    let mut digits = [0u8; 20];
-    let count = io::decimal(n as u64, &mut digits);
-    append(to, at, &digits[..count])
+// The name by which the system knows what is open under a number.
+fn name_of(rt: &HostRuntime, fd: i32) -> Result<PathBuf, Error> {
+    let link = InlineText::<32>::of(format_args!("/proc/self/fd/{fd}"));
+    fs::read_link(rt, link.as_str())
 }
 
 // Is what is there under the name the reel that is read? Where the system does not tell, it may be. A pipe is opened for reading and writing,
 // which does not wait; for reading alone only if it is to be replaced. What cannot be opened may be the reel only if that came opened.
-fn is_reel(reel: i32, name: &[u8], force: bool) -> bool {
-    let mut fd = os::open_update(name);
-    if fd < 0 && force {
-        fd = os::open_read(name);
+fn is_reel(rt: &HostRuntime, reel: &Source, name: &[u8], force: bool) -> bool {
+    match opened(rt, name, force) {
+        Ok(file) => is_same(rt, reel, &file),
+        Err(_) => match reel {
+            Source::Standard(_) => true,
+            Source::Named(_) => false,
+        },
     }
-    if fd < 0 {
-        return reel == STDIN_FILENO;
-    }
-    let same = is_same(reel, fd);
-    libc::close(fd);
-    same
 }
 
-// Do two descriptors have the same name?
-fn is_same(a: i32, b: i32) -> bool {
-    let mut x = io::buffer();
-    let mut y = io::buffer();
-    let n = name_of(a, &mut x);
-    let m = name_of(b, &mut y);
-    if n == 0 {
+// Opens what is there under the name.
+fn opened(rt: &HostRuntime, name: &[u8], force: bool) -> Result<File, Error> {
+    let path = input::path(name)?;
+    let mut both = OpenOptions::new();
+    both.read(true).write(true);
+    match both.open(rt, path) {
+        Ok(file) => Ok(file),
+        Err(error) => {
+            if force {
+                File::open(rt, path)
+            } else {
+                Err(error)
+            }
+        }
+    }
+}
+
+// Does the system know the reel and a file by the same name?
+fn is_same(rt: &HostRuntime, reel: &Source, file: &File) -> bool {
+    let one = name_of(rt, input::number(reel));
+    let other = name_of(rt, file.as_raw_fd());
+    match (one, other) {
+        (Ok(one), Ok(other)) => words::is(one.as_str().as_bytes(), other.as_str().as_bytes()),
+        (Err(error), _) => may_be_same(rt, reel, file, error),
+        (_, Err(error)) => may_be_same(rt, reel, file, error),
+    }
+}
+
+// The same where the system did not tell both names. If one is no UTF-8, they may be the same only if both are one file.
+fn may_be_same(rt: &HostRuntime, reel: &Source, file: &File, error: Error) -> bool {
+    if error.kind() != ErrorKind::InvalidFilename {
         return true;
     }
-    words::is(&x[..n], &y[..m])
+    match (input::metadata(rt, reel), file.metadata()) {
+        (Ok(one), Ok(other)) => one.dev() == other.dev() && one.ino() == other.ino(),
+        _ => true,
+    }
 }
 
-// May the new reel have its name? If not, it is said why. Where no reel is read, `reel` is below 0.
-fn is_free(reel: i32, new: &[u8], force: bool) -> bool {
+// May the new reel have its name? If not, it is said why. There is no `reel` where none is read.
+fn is_free(rt: &HostRuntime, reel: Option<&Source>, new: &[u8], force: bool) -> bool {
     if input::is_standard(new) {
-        say::about(new, b": no name for a new reel");
+        say::about(rt, new, b": no name for a new reel");
         return false;
     }
-    if !is_there(new) {
+    if !is_there(rt, new) {
         return true;
     }
-    if reel >= 0 && is_reel(reel, new, force) {
-        say::about(new, b": the reel itself");
-        return false;
+    if let Some(reel) = reel {
+        if is_reel(rt, reel, new, force) {
+            say::about(rt, new, b": the reel itself");
+            return false;
+        }
     }
     if !force {
-        say::about(new, b": exists already; --force replaces it");
+        say::about(rt, new, b": exists already; --force replaces it");
         return false;
     }
     true
 }
 
-// Begins the new reel, beside a reel that is read, and answers its descriptor. If it cannot be made, that is said, and the answer is below
-// 0.
-pub fn begin(reel: i32, new: &[u8], part: &[u8], force: bool) -> i32 {
-    if !is_free(reel, new, force) {
-        return -1;
+// Makes the file of a new reel, which is not there yet.
+fn create(rt: &HostRuntime, part: &[u8]) -> Result<File, Error> {
+    let path = input::path(part)?;
+    OpenOptions::new()
+        .write(true)
+        .create_new(true)
+        .open(rt, path)
+}
+
+// Takes a file away. Where that fails it stays, and nobody is told.
+fn remove(rt: &HostRuntime, name: &[u8]) {
+    if let Ok(path) = input::path(name) {
+        let _ = fs::remove_file(rt, path);
     }
-    let fd = os::create(part);
-    if fd >= 3 {
-        return fd;
+}
+
+// Gives a file another name.
+fn rename(rt: &HostRuntime, from: &[u8], to: &[u8]) -> Result<(), Error> {
+    fs::rename(rt, input::path(from)?, input::path(to)?)
+}
+
+// Begins the new reel, beside a reel that is read. If it cannot be made, that is said.
+pub fn begin(
+    rt: &HostRuntime,
+    reel: Option<&Source>,
+    new: &[u8],
+    part: &[u8],
+    force: bool,
+) -> Option<File> {
+    if !is_free(rt, reel, new, force) {
+        return None;
     }
-    if fd >= 0 {
-        os::unlink(part);
-        say::line(b"standard output: closed");
-        return -1;
+    match create(rt, part) {
+        Ok(file) => beside_standard(rt, file, part),
+        Err(error) => {
+            not_begun(rt, part, error);
+            None
+        }
     }
-    if os::errno() == libc::EEXIST {
+}
+
+// The new reel, unless it took the number of a standard stream that is closed.
+fn beside_standard(rt: &HostRuntime, file: File, part: &[u8]) -> Option<File> {
+    if file.as_raw_fd() >= 3 {
+        return Some(file);
+    }
+    remove(rt, part);
+    say::line(rt, b"standard output: closed");
+    None
+}
+
+// Says why the new reel could not be made.
+fn not_begun(rt: &HostRuntime, part: &[u8], error: Error) {
+    if error.kind() == ErrorKind::AlreadyExists {
         say::about(
+            rt,
             part,
             b": exists already; it is another run's, or was left by one that was interrupted",
         );
-        return -1;
+    } else {
+        say::failed(rt, part, error);
     }
-    say::failed(part);
-    -1
 }
 
 // Gives the new reel its name, when all of it is on the device. The status that was reached so far stays, or it is said what failed.
-pub fn keep(fd: i32, part: &[u8], new: &[u8], force: bool, status: i32) -> i32
+pub fn keep(rt: &HostRuntime, file: File, part: &[u8], new: &[u8], force: bool, status: i32) -> i32
     requires { Exit status }
     ensures { Exit result }
 {
-    if libc::fsync(fd) < 0 {
-        let failed = say::failed(part);
-        drop(fd, part);
+    if let Err(error) = file.sync_all() {
+        let failed = say::failed(rt, part, error);
+        drop(rt, file, part);
         return failed;
     }
-    if libc::close(fd) < 0 {
-        let failed = say::failed(part);
-        os::unlink(part);
-        return failed;
-    }
-    if !force && is_there(new) {
-        say::about(new, b": exists already; --force replaces it");
-        os::unlink(part);
+    close(file);
+    if !force && is_there(rt, new) {
+        say::about(rt, new, b": exists already; --force replaces it");
+        remove(rt, part);
         return 2;
     }
-    if os::rename(part, new) < 0 {
-        let failed = say::failed(new);
-        os::unlink(part);
+    if let Err(error) = rename(rt, part, new) {
+        let failed = say::failed(rt, new, error);
+        remove(rt, part);
         return failed;
     }
     status
 }
 
+fn close(_file: File) {}
+
 // Takes away what was written so far.
-pub fn drop(fd: i32, part: &[u8]) {
-    libc::close(fd);
-    os::unlink(part);
+pub fn drop(rt: &HostRuntime, file: File, part: &[u8]) {
+    close(file);
+    remove(rt, part);
 }

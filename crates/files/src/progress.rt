@@ -1,37 +1,41 @@
 // What is told of the work on a terminal, when a second has gone by. Where standard error is no terminal, nothing is told.
-use libc::{STDERR_FILENO, STDOUT_FILENO};
+use crate::say;
+use std::io::IsTerminal;
+use std::time::Clock as SystemClock;
 
 // The second in which the work was last looked at, and how much was told: nothing yet; nothing, but a second has begun since; or something,
 // which has to be taken away in the end.
-#[derive(Drop)]
+#[derive(Clone, Copy)]
 pub struct Clock {
     pub second: i64,
     pub told: u8,
     pub quiet: bool,
 }
 
-// The time, in seconds.
-fn now() -> i64 {
-    let mut seconds = 0i64;
-    libc::time(&mut seconds)
+// The time, in seconds; 0 where the system does not tell it.
+fn now(rt: &HostRuntime) -> i64 {
+    match rt.since_1970() {
+        Ok(time) => i64::try_from(time.as_secs()).unwrap_or(0),
+        Err(_) => 0,
+    }
 }
 
 // A clock for work that begins. It is quiet where rows that are not done yet stand on the same terminal.
-pub fn begun(by_rows: bool) -> Clock {
+pub fn begun(rt: &HostRuntime, by_rows: bool) -> Clock {
     let mut quiet = false;
-    if by_rows && libc::isatty(STDOUT_FILENO) == 1 {
+    if by_rows && rt.stdout().is_terminal() {
         quiet = true;
     }
     Clock {
-        second: now(),
+        second: now(rt),
         told: 0,
         quiet,
     }
 }
 
 // Tells how much is done, when another second has begun and a whole one has gone by.
-pub fn tell(clock: Clock, tiles: usize, bytes: usize) -> Clock {
-    let second = now();
+pub fn tell(rt: &HostRuntime, clock: Clock, tiles: usize, bytes: usize) -> Clock {
+    let second = now(rt);
     let quiet = clock.quiet;
     if second == clock.second {
         return clock;
@@ -43,18 +47,18 @@ pub fn tell(clock: Clock, tiles: usize, bytes: usize) -> Clock {
             quiet,
         };
     }
-    if quiet || libc::isatty(STDERR_FILENO) != 1 {
+    if quiet || !rt.stderr().is_terminal() {
         return Clock {
             second,
             told: 1,
             quiet,
         };
     }
-    io::write_all(STDERR_FILENO, b"\r\x1b[Kcounterfrost: ");
-    io::print_decimal(STDERR_FILENO, tiles as u64);
-    io::write_all(STDERR_FILENO, b" tiles, ");
-    io::print_decimal(STDERR_FILENO, bytes as u64);
-    io::write_all(STDERR_FILENO, b" bytes");
+    say::words(rt, b"\r\x1b[Kcounterfrost: ");
+    say::number(rt, tiles);
+    say::words(rt, b" tiles, ");
+    say::number(rt, bytes);
+    say::words(rt, b" bytes");
     Clock {
         second,
         told: 2,
@@ -63,8 +67,8 @@ pub fn tell(clock: Clock, tiles: usize, bytes: usize) -> Clock {
 }
 
 // Takes away what was told.
-pub fn clear(clock: Clock) {
+pub fn clear(rt: &HostRuntime, clock: Clock) {
     if clock.told == 2 {
-        io::write_all(STDERR_FILENO, b"\r\x1b[K");
+        say::words(rt, b"\r\x1b[K");
     }
 }

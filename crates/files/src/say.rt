@@ -4,61 +4,76 @@ ghost use Rattle.std.specs.Prelude.{◌≡◌, pos};
 ghost use Rattle.files.specs.Exit.{Exit};
 
 use lettering::line;
-use libc::{STDERR_FILENO, STDOUT_FILENO};
+use std::fmt::InlineText;
+use std::io::Error;
 
 // Words as they are.
-pub fn words(said: &[u8]) {
-    io::write_all(STDERR_FILENO, said);
+pub fn words(rt: &HostRuntime, said: &[u8]) {
+    let _ = rt.stderr().write_all(said);
 }
 
 // The beginning of a line.
-pub fn name() {
-    words(b"counterfrost: ");
+pub fn name(rt: &HostRuntime) {
+    words(rt, b"counterfrost: ");
 }
 
 // A whole line.
-pub fn line(said: &[u8]) {
-    name();
-    words(said);
-    words(b"\n");
+pub fn line(rt: &HostRuntime, said: &[u8]) {
+    name(rt);
+    words(rt, said);
+    words(rt, b"\n");
 }
 
 // A line about a word or a file.
-pub fn about(what: &[u8], said: &[u8]) {
-    name();
-    words(what);
-    words(said);
-    words(b"\n");
+pub fn about(rt: &HostRuntime, what: &[u8], said: &[u8]) {
+    name(rt);
+    words(rt, what);
+    words(rt, said);
+    words(rt, b"\n");
 }
 
 // Why the system refused, in its own words. It answers the status for that.
-pub fn failed(what: &[u8]) -> i32
+pub fn failed(rt: &HostRuntime, what: &[u8], error: Error) -> i32
     ensures exit { Exit result }
     ensures value { result ≡ pos 2 }
 {
-    name();
-    os::fail(what);
+    let said = InlineText::<256>::of(error);
+    name(rt);
+    words(rt, what);
+    words(rt, b": ");
+    words(rt, own_words(said.as_str()).as_bytes());
+    words(rt, b"\n");
     2
 }
 
+// The system's own words for an error: without the error's number, which stands behind them.
+fn own_words(said: &str) -> &str {
+    match said.split_once(" (os error ") {
+        Some((words, _)) => words,
+        None => said,
+    }
+}
+
 // A number, on standard error.
-pub fn number(n: usize) {
-    io::print_decimal(STDERR_FILENO, n as u64);
+pub fn number(rt: &HostRuntime, n: usize) {
+    let mut digits = [0u8; 20];
+    let count = io::decimal(n as u64, &mut digits);
+    words(rt, &digits[..count]);
 }
 
 // A line of a listing, behind the command's name.
-pub fn listed(line: line::Line) {
+pub fn listed(rt: &HostRuntime, line: line::Line) {
     let bytes = line.bytes;
     let n = at_most(line.length, &bytes);
-    name();
-    words(&bytes[..n]);
+    name(rt);
+    words(rt, &bytes[..n]);
 }
 
 // A line of a listing, on standard output.
-pub fn print(line: line::Line) -> bool {
+pub fn print(rt: &HostRuntime, line: line::Line) -> Result<(), Error> {
     let bytes = line.bytes;
     let n = at_most(line.length, &bytes);
-    io::write_all(STDOUT_FILENO, &bytes[..n])
+    rt.stdout().write_all(&bytes[..n])
 }
 
 // A count that lies within the bytes.

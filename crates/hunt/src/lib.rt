@@ -1,27 +1,29 @@
 // The search for a tile along a reel: the first that has a number.
 #![tactic(auto)]
 
-use files::input::View;
+use files::input::{Source, View};
 use files::progress::Clock;
 use files::{copy, input, progress, say};
 use reel::Tile;
 use size::Refusal;
+use std::fs::File;
+use std::io::Error;
 use window::Goal;
 
 // How far the search is: it goes on, came to the tile, to the reel's end or to a refusal and an offset; or it failed.
-#[derive(Drop)]
+#[derive(Clone, Copy)]
 pub enum Stage {
     Going,
     Here(Tile),
     Ended,
     Stopped(Refusal, usize),
-    NoReel,
-    NoNew,
+    NoReel(Error),
+    NoNew(Error),
     TooLong,
 }
 
 // A search along a reel: the window, the place in it, and the tiles that it passed.
-#[derive(Drop)]
+#[derive(Clone, Copy)]
 pub struct Hunt {
     pub view: View,
     pub place: usize,
@@ -32,43 +34,55 @@ pub struct Hunt {
 
 // The search at another stage.
 fn at(hunt: Hunt, stage: Stage) -> Hunt {
-    let view = hunt.view;
-    let clock = hunt.clock;
     Hunt {
-        view,
+        view: hunt.view,
         place: hunt.place,
         tiles: hunt.tiles,
         stage,
-        clock,
+        clock: hunt.clock,
+    }
+}
+
+// A window that was read: the search goes on in it, or it failed.
+fn stage_of(view: View) -> Stage {
+    match view.failed {
+        None => Stage::Going,
+        Some(error) => Stage::NoReel(error),
     }
 }
 
 // Goes on to the next window. What was passed goes to the new reel, if there is one.
-fn onward(fd: i32, out: i32, window: &mut [u8], hunt: Hunt) -> Hunt {
+fn onward(
+    rt: &HostRuntime,
+    from: &Source,
+    out: Option<&File>,
+    window: &mut [u8],
+    hunt: Hunt,
+) -> Hunt {
     let place = hunt.place;
-    if !copy::copied(out, window, place) {
-        return at(hunt, Stage::NoNew);
+    if let Err(error) = copy::copied(out, window, place) {
+        return at(hunt, Stage::NoNew(error));
     }
-    let held = hunt.view;
-    let before = hunt.clock;
-    // Before the read: if that fails, errno is to tell of it.
-    let clock = progress::tell(before, hunt.tiles, input::plus(held.offset, place));
-    let view = input::next(fd, window, held, place);
-    let stage = if view.failed {
-        Stage::NoReel
-    } else {
-        Stage::Going
-    };
+    let passed = input::plus(hunt.view.offset, place);
+    let clock = progress::tell(rt, hunt.clock, hunt.tiles, passed);
+    let view = input::next(from, window, hunt.view, place);
     Hunt {
         view,
         place: 0,
         tiles: hunt.tiles,
-        stage,
+        stage: stage_of(view),
         clock,
     }
 }
 
-fn turn(fd: i32, out: i32, window: &mut [u8], number: usize, hunt: Hunt) -> Hunt {
+fn turn(
+    rt: &HostRuntime,
+    from: &Source,
+    out: Option<&File>,
+    window: &mut [u8],
+    number: usize,
+    hunt: Hunt,
+) -> Hunt {
     let view = hunt.view;
     if hunt.tiles > show::FAR {
         return at(hunt, Stage::TooLong);
@@ -81,22 +95,20 @@ fn turn(fd: i32, out: i32, window: &mut [u8], number: usize, hunt: Hunt) -> Hunt
         hunt.tiles,
         number,
     );
-    let clock = hunt.clock;
     let now = Hunt {
         view,
         place: sought.place,
         tiles: sought.tiles,
         stage: Stage::Going,
-        clock,
+        clock: hunt.clock,
     };
-    let goal = sought.goal;
-    match goal {
+    match sought.goal {
         Goal::Here(tile) => at(now, Stage::Here(tile)),
-        Goal::More => onward(fd, out, window, now),
+        Goal::More => onward(rt, from, out, window, now),
         Goal::End => at(now, Stage::Ended),
-        Goal::Stopped(refusal, from) => at(
+        Goal::Stopped(refusal, start) => at(
             now,
-            Stage::Stopped(refusal, input::plus(view.offset, from)),
+            Stage::Stopped(refusal, input::plus(view.offset, start)),
         ),
     }
 }
@@ -109,57 +121,47 @@ fn is_going(stage: Stage) -> bool {
 }
 
 // Looks for the first tile with a number.
-pub fn search(fd: i32, out: i32, window: &mut [u8], number: usize) -> Hunt {
-    let clock = progress::begun(false);
-    let view = input::first(fd, window);
-    let stage = if view.failed {
-        Stage::NoReel
-    } else {
-        Stage::Going
-    };
+pub fn search(
+    rt: &HostRuntime,
+    from: &Source,
+    out: Option<&File>,
+    window: &mut [u8],
+    number: usize,
+) -> Hunt {
+    let clock = progress::begun(rt, false);
+    let view = input::first(from, window);
     let mut now = Hunt {
         view,
         place: 0,
         tiles: 0,
-        stage,
+        stage: stage_of(view),
         clock,
     };
-    let mut going = !view.failed;
-    let mut turns = u64::MAX;
-    while turns > 0 && going {
-        now = turn(fd, out, window, number, now);
-        let reached = now.stage;
-        going = is_going(reached);
-        turns -= 1;
+    for _ in 0..u64::MAX {
+        if !is_going(now.stage) {
+            break;
+        }
+        now = turn(rt, from, out, window, number, now);
     }
-    let done = now.clock;
-    progress::clear(done);
+    progress::clear(rt, now.clock);
     now
 }
 
-// How many squares the drawing of a reel has, one for each tile and one where it stopped; or its bytes could not be read.
-#[derive(Drop)]
-pub struct Squares {
-    pub count: usize,
-    pub failed: bool,
+// How many squares the drawing of a reel has, one for each tile and one where it stopped; or its bytes could not be read, or are too many.
+#[derive(Clone, Copy)]
+pub enum Squares {
+    Are(usize),
+    NoReel(Error),
+    TooLong,
 }
 
 // Counts them: no tile has a number above the largest one.
-pub fn count(fd: i32, window: &mut [u8]) -> Squares {
-    let done = search(fd, -1, window, words::LARGEST + 1);
-    let stage = done.stage;
-    match stage {
-        Stage::Ended => Squares {
-            count: done.tiles,
-            failed: false,
-        },
-        Stage::Stopped(_, _) => Squares {
-            count: input::plus(done.tiles, 1),
-            failed: false,
-        },
-        _ => Squares {
-            count: 0,
-            failed: true,
-        },
+pub fn count(rt: &HostRuntime, from: &Source, window: &mut [u8]) -> Squares {
+    let done = search(rt, from, None, window, words::LARGEST + 1);
+    match done.stage {
+        Stage::Ended => Squares::Are(done.tiles),
+        Stage::Stopped(_, _) => Squares::Are(input::plus(done.tiles, 1)),
+        Stage::NoReel(error) => Squares::NoReel(error),
+        _ => Squares::TooLong,
     }
 }

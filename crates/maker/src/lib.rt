@@ -5,133 +5,140 @@ ghost use Rattle.std.specs.Prelude.{◌≡◌, length};
 ghost use Rattle.files.specs.Exit.{Exit};
 
 use code::Kind;
-use files::{asked, guide, input, measure, new, say};
+use files::{asked, copy, guide, input, measure, new, say};
 use flag::Flag;
 use header::{Header, Mark};
 use printer::Laid;
 use promise::Outcome;
 use size::{House, Judgement, Refusal};
+use std::fs::File;
 use words::{Amount, Verb};
 
 // The size and the slope of the tiles, and the number of the first one; or the words for them are wrong.
-#[derive(Drop)]
+#[derive(Clone, Copy)]
 enum Plan {
     Is(usize, usize, usize),
     No,
 }
 
 // The k-th plain word as a number.
-fn number(k: usize) -> Amount {
+fn number(rt: &HostRuntime, k: usize) -> Amount {
     let mut word = io::buffer();
-    let n = asked::plain(k, &mut word);
+    let n = asked::plain(rt, k, &mut word);
     let number = words::number(&word[..n]);
     match number {
         Amount::Is(_) => {}
         Amount::TooLarge => {
-            guide::wrong(Verb::Write, &word[..n], b": above 4294967295");
+            guide::wrong(rt, Verb::Write, &word[..n], b": above 4294967295");
         }
         Amount::No => {
-            guide::wrong(Verb::Write, &word[..n], b": no number");
+            guide::wrong(rt, Verb::Write, &word[..n], b": no number");
         }
     }
     number
 }
 
 // The slope that the third plain word says: the house slope of p, or a number.
-fn slope(p: usize) -> Amount {
+fn slope(rt: &HostRuntime, p: usize) -> Amount {
     let mut word = io::buffer();
-    let n = asked::plain(2, &mut word);
+    let n = asked::plain(rt, 2, &mut word);
     if words::is(&word[..n], b"house") {
         return match size::house_slope(p) {
             House::Slope(l) => Amount::Is(l),
             House::Refused(_) => Amount::Is(0),
         };
     }
-    number(2)
+    number(rt, 2)
 }
 
 // Says that the size or the slope is refused.
-fn judged(p: usize, l: usize) -> bool {
+fn judged(rt: &HostRuntime, p: usize, l: usize) -> bool {
     match size::judge(Kind::New, p, l) {
         Judgement::Taken => true,
         Judgement::Refused(no) => {
-            say::name();
-            say::words(b"refused ");
-            say::number(size::number(no));
+            say::name(rt);
+            say::words(rt, b"refused ");
+            say::number(rt, size::number(no));
             match no {
                 Refusal::BadSize => {
-                    say::words(b": no size is ");
-                    say::number(p);
+                    say::words(rt, b": no size is ");
+                    say::number(rt, p);
                 }
                 _ => {
-                    say::words(b": at this size no slope is ");
-                    say::number(l);
+                    say::words(rt, b": at this size no slope is ");
+                    say::number(rt, l);
                 }
             }
-            say::words(b"\n");
-            guide::goes(Verb::Write);
+            say::words(rt, b"\n");
+            guide::goes(rt, Verb::Write);
             false
         }
     }
 }
 
 // What the words ask for.
-fn planned(texts: usize) -> Plan {
-    let first = number(1);
+fn planned(rt: &HostRuntime, texts: usize) -> Plan {
+    let first = number(rt, 1);
     let Amount::Is(p) = first else {
         return Plan::No;
     };
-    let second = slope(p);
+    let second = slope(rt, p);
     let Amount::Is(l) = second else {
         return Plan::No;
     };
-    let third = number(3);
+    let third = number(rt, 3);
     let Amount::Is(from) = third else {
         return Plan::No;
     };
-    if !judged(p, l) {
+    if !judged(rt, p, l) {
         return Plan::No;
     }
     if input::plus(from, texts) > words::LARGEST + 1 {
-        say::line(b"the last tile's number is above 4294967295");
-        guide::goes(Verb::Write);
+        say::line(rt, b"the last tile's number is above 4294967295");
+        guide::goes(rt, Verb::Write);
         return Plan::No;
     }
     Plan::Is(p, l, from)
 }
 
 // Writes a reel of texts.
-pub fn write(plain: usize, force: bool) -> i32
+pub fn write(rt: &HostRuntime, plain: usize, force: bool) -> i32
     ensures { Exit result }
 {
     let mut new = io::buffer();
-    let n = asked::plain(0, &mut new);
-    if os::errno() != 0 {
-        return say::failed(b"a word");
-    }
+    let Some(n) = asked::held(rt, 0, &mut new) else {
+        return 2;
+    };
     if plain < 5 {
         return 2;
     }
-    match planned(plain - 4) {
+    match planned(rt, plain - 4) {
         Plan::No => 2,
-        Plan::Is(p, l, from) => written(&new[..n], p, l, from, plain - 4, force),
+        Plan::Is(p, l, from) => written(rt, &new[..n], p, l, from, plain - 4, force),
     }
 }
 
-fn written(new: &[u8], p: usize, l: usize, from: usize, texts: usize, force: bool) -> i32
+fn written(
+    rt: &HostRuntime,
+    new: &[u8],
+    p: usize,
+    l: usize,
+    from: usize,
+    texts: usize,
+    force: bool,
+) -> i32
     ensures { Exit result }
 {
     let mut part = io::buffer();
     let n = new::part(new, &mut part);
-    let out = new::begin(-1, new, &part[..n], force);
-    if out < 0 {
+    let Some(out) = new::begin(rt, None, new, &part[..n], force) else {
         return 2;
-    }
-    let status = all(out, p, l, from, texts, &part[..n]);
+    };
+    let status = all(rt, &out, p, l, from, texts, &part[..n]);
     if status == 0 {
-        return new::keep(out, &part[..n], new, force, status);
+        return new::keep(rt, out, &part[..n], new, force, status);
     }
-    new::drop(out, &part[..n]);
+    new::drop(rt, out, &part[..n]);
     status
 }
 
@@ -143,20 +150,29 @@ fn record_room() -> [u8; 65552]
 }
 
 // All texts, one behind the other.
-fn all(out: i32, p: usize, l: usize, from: usize, texts: usize, part: &[u8]) -> i32
+fn all(
+    rt: &HostRuntime,
+    out: &File,
+    p: usize,
+    l: usize,
+    from: usize,
+    texts: usize,
+    part: &[u8],
+) -> i32
     ensures { Exit result }
 {
     let mut text = io::large_buffer();
     let mut tile = io::large_buffer();
     let mut room = record_room();
     each(
-        out, p, l, from, texts, part, &mut text, &mut tile, &mut room,
+        rt, out, p, l, from, texts, part, &mut text, &mut tile, &mut room,
     )
 }
 
 // The same, with room for a text, a tile and a record.
 fn each(
-    out: i32,
+    rt: &HostRuntime,
+    out: &File,
     p: usize,
     l: usize,
     from: usize,
@@ -168,20 +184,19 @@ fn each(
 ) -> i32
     ensures { Exit result }
 {
-    let mut k = 0;
-    while k < texts {
-        let status = one(out, p, l, from, k, part, text, tile, room);
+    for k in 0..texts {
+        let status = one(rt, out, p, l, from, k, part, text, tile, room);
         if status != 0 {
             return status;
         }
-        k += 1;
     }
     0
 }
 
 // The k-th text: it is read, written as a tile, laid as a record, and that is written to the new reel.
 fn one(
-    out: i32,
+    rt: &HostRuntime,
+    out: &File,
     p: usize,
     l: usize,
     from: usize,
@@ -194,24 +209,22 @@ fn one(
     ensures { Exit result }
 {
     let mut name = io::buffer();
-    let n = asked::plain(input::plus(k, 4), &mut name);
-    if os::errno() != 0 {
-        return say::failed(b"a word");
-    }
-    let fd = input::open(&name[..n]);
-    if fd < 0 {
-        return input::failed(&name[..n]);
-    }
-    let view = input::first(fd, text);
-    libc::close(fd);
-    if view.failed {
-        return input::failed(&name[..n]);
+    let Some(n) = asked::held(rt, input::plus(k, 4), &mut name) else {
+        return 2;
+    };
+    let view = match input::open(rt, &name[..n]) {
+        Ok(source) => input::first(&source, text),
+        Err(error) => return input::failed(rt, &name[..n], error),
+    };
+    if let Some(error) = view.failed {
+        return input::failed(rt, &name[..n], error);
     }
     let held = say::at_most(view.held, text);
     if held != measure::text(p) {
-        return wrong_length(&name[..n], p);
+        return wrong_length(rt, &name[..n], p);
     }
     laid(
+        rt,
         out,
         p,
         l,
@@ -224,21 +237,22 @@ fn one(
 }
 
 // Says how long a text has to be.
-fn wrong_length(name: &[u8], p: usize) -> i32
+fn wrong_length(rt: &HostRuntime, name: &[u8], p: usize) -> i32
     ensures { Exit result }
 {
-    say::name();
-    say::words(name);
-    say::words(b": refused 3: a text has ");
-    say::number(measure::text(p));
-    say::words(b" bytes at size ");
-    say::number(p);
-    say::words(b"\n");
+    say::name(rt);
+    say::words(rt, name);
+    say::words(rt, b": refused 3: a text has ");
+    say::number(rt, measure::text(p));
+    say::words(rt, b" bytes at size ");
+    say::number(rt, p);
+    say::words(rt, b"\n");
     2
 }
 
 fn laid(
-    out: i32,
+    rt: &HostRuntime,
+    out: &File,
     p: usize,
     l: usize,
     number: usize,
@@ -268,11 +282,10 @@ fn laid(
     let whole = say::at_most(cells, tile);
     match printer::lay(header, &tile[..whole], room) {
         Laid::Record(length) => {
-            let n = say::at_most(length, room);
-            if io::write_all(out, &room[..n]) {
-                return 0;
+            match copy::copied(Some(out), room, length) {
+                Ok(()) => 0,
+                Err(error) => say::failed(rt, part, error),
             }
-            say::failed(part)
         }
         Laid::Refused(_) => 2,
     }
