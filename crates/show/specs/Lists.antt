@@ -90,6 +90,7 @@ EndThere reel place offset ending.End = NextTold reel place end
 EndThere reel place offset (ending.Stopped r from) = NextTold reel place (refused (number_of r) (offset + from))
 
 end_there : (reel : List ℕ) (place offset : ℕ) (s : Step) → IsEnd s → There reel place offset s → EndThere reel place offset (ending_of s)
+end_there reel place offset (step.Tile _) is_end there = elim is_end [ ]
 end_there reel place offset step.End is_end there = there
 end_there reel place offset (step.Stopped r from) is_end there = there
 end_there reel place offset step.More is_end there = tt
