@@ -1,4 +1,5 @@
--- The tile code: what a reader must believe (`Says`, `Tile`, `Kind`, `Count`, `Margin`), and the paper's theorems, proved from that.
+-- The tile code: what a reader must believe (`Says`, `Tile`, `Kind`, `Count`, `Margin`), and the paper's theorems, proved from that (the last
+-- of them, `Lost`, in proofs/).
 pub mod Says
 pub mod Slope
 pub mod Kind
@@ -26,4 +27,3 @@ pub mod Doubtful
 pub mod Fillings
 pub mod Writing
 pub mod Margin
-pub mod Lost

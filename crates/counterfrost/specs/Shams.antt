@@ -17,8 +17,10 @@ use Rattle.promise.specs.Calls.{WriteTold}
 use Rattle.promise.specs.Explain.{row_fills}
 use Rattle.promise.specs.Worked as tile_case
 use Rattle.promise.specs.WorkedJudged.{judgement}
-use Rattle.promise.specs.WorkedRecovered.{nines, zeros_text, recovery_claimed}
+use Rattle.promise.specs.WorkedRecovered.{nines, zeros_text}
 use Rattle.promise.specs.Worked.{zeros, text_1, tile_1, tile_4, tile_5, tile_6, tile_7, tile_8, repaired_8, tile_9, filled_9, copied_1}
+use Rattle.promise.proofs.Worked as tile_worked
+use Rattle.promise.proofs.WorkedRecovered.{recovery_claimed}
 use Rattle.sheet.specs.Answer as sheet
 use Rattle.sheet.specs.Calls as sheet_calls
 use Rattle.sheet.specs.Worked as sheet_case
@@ -91,7 +93,7 @@ version_missing e = omega (arith, e)
 -- ---- write and read
 
 written_1 : (kind : ℕ) → WriteWorded kind 5 2 text_1 zeros (word done) tile_1
-written_1 kind = record { said = tile.done; right = ((tile_case.claimed 1).0 (tile_kind kind) zeros refl).0; is = refl }
+written_1 kind = record { said = tile.done; right = ((tile_worked.claimed 1).0 (tile_kind kind) zeros refl).0; is = refl }
 
 -- a writer that takes the slope for the size
 pub write_exchanged : (kind : ℕ) (x : List ℕ) → WriteWorded kind 5 2 text_1 zeros (word (refusal 1)) x → ⊥
@@ -120,7 +122,7 @@ write_refusal_done kind x t =
 read_1 : (kind : ℕ) (page : List ℕ) → length page ≡ text_length 5 → ReadWorded kind 5 2 tile_1 page (word done) (text_of 5 tile_1)
 read_1 kind page e = record {
   said = tile.done;
-  right = tile_calls.reads (admits size_5 (tile_case.taken_5_2 (tile_kind kind)) (refl, e)) (written_good ((tile_case.claimed 1).0 (tile_kind kind) zeros refl).0);
+  right = tile_calls.reads (admits size_5 (tile_case.taken_5_2 (tile_kind kind)) (refl, e)) (written_good ((tile_worked.claimed 1).0 (tile_kind kind) zeros refl).0);
   is = refl;
 }
 
@@ -130,7 +132,7 @@ read_exchanged kind page x e t = omega (arith, (read_word_once kind 5 2 tile_1 p
 
 -- tile 1 without its checks
 refused_1 : (kind : ℕ) (page : List ℕ) → length page ≡ text_length 5 → ReadWorded kind 5 2 copied_1 page (word (refusal 5)) page
-refused_1 kind page e = record { said = tile.refused 5; right = ((tile_case.other_claimed 2).1 (tile_kind kind) page e).0; is = refl }
+refused_1 kind page e = record { said = tile.refused 5; right = ((tile_worked.other_claimed 2).1 (tile_kind kind) page e).0; is = refl }
 
 -- one that says Done to a tile that is not good
 pub read_damaged : (kind : ℕ) (page x : List ℕ) → length page ≡ text_length 5 → ReadWorded kind 5 2 copied_1 page (word done) x → ⊥
@@ -144,7 +146,7 @@ read_refusal_done kind page x e t =
 -- ---- repair
 
 mended_8 : (kind : ℕ) → RepairWorded kind 5 2 tile_8 (word (answer 1 3 0)) repaired_8
-mended_8 kind = record { said = tile.column 3; right = (tile_case.claimed 8 (tile_kind kind)).0; is = refl }
+mended_8 kind = record { said = tile.column 3; right = (tile_worked.claimed 8 (tile_kind kind)).0; is = refl }
 
 -- a repair that tells a column as a row
 pub column_told_row : (kind : ℕ) (x : List ℕ) → RepairWorded kind 5 2 tile_8 (word (answer 2 3 0)) x → ⊥
@@ -155,7 +157,7 @@ pub column_second : (kind : ℕ) (x : List ℕ) → RepairWorded kind 5 2 tile_8
 column_second kind x t = omega (arith, (repair_word_once kind 5 2 tile_8 (word (answer 1 3 0)) (word (answer 1 0 3)) repaired_8 x (mended_8 kind) t).0)
 
 mended_4 : (kind : ℕ) → RepairWorded kind 5 2 tile_4 (word (answer 3 2 3)) zeros
-mended_4 kind = record { said = tile.cell 2 3; right = (tile_case.claimed 4 (tile_kind kind)).0; is = refl }
+mended_4 kind = record { said = tile.cell 2 3; right = (tile_worked.claimed 4 (tile_kind kind)).0; is = refl }
 
 -- one that still tells a lone byte as its column
 pub cell_told_column : (kind : ℕ) (x : List ℕ) → RepairWorded kind 5 2 tile_4 (word (answer 1 3 0)) x → ⊥
@@ -209,7 +211,7 @@ unfolding line_of
 filled_6 kind = record {
   said = tile.done;
   right = tile_calls.has_lines (admits size_5 (tile_case.taken_5_2 (tile_kind kind)) refl) (omega arith) (omega arith) (tile_calls.Looked.one
-      (once_only (fills_once 5 2 tile_6 tile_case.slope_5_2 (Row 0) (Row 0) (inl tt)) (row_fills (tile_case.claimed 6 (tile_kind kind)).0)) refl);
+      (once_only (fills_once 5 2 tile_6 tile_case.slope_5_2 (Row 0) (Row 0) (inl tt)) (row_fills (tile_worked.claimed 6 (tile_kind kind)).0)) refl);
   is = refl;
 }
 
@@ -220,7 +222,7 @@ rows_for_columns kind x t = omega (arith, (fill_word_once kind 5 2 tile_6 0 0 (w
 -- row 0 and column 0
 crossed_9 : (kind : ℕ) → FillWorded kind 5 2 tile_9 0 0x8000 (word done) filled_9
 unfolding line_of
-crossed_9 kind = record { said = tile.done; right = (tile_case.claimed 9 (tile_kind kind)).0; is = refl }
+crossed_9 kind = record { said = tile.done; right = (tile_worked.claimed 9 (tile_kind kind)).0; is = refl }
 
 -- one that passes over the second line: row 0 alone has no filling there
 pub second_line_ignored : (kind : ℕ) (x : List ℕ) → FillWorded kind 5 2 tile_9 0 0x8000 (word (refusal 5)) x → ⊥

@@ -11,9 +11,10 @@ use Rattle.size.specs.Answer as size
 use Rattle.size.specs.Shams.{size_7}
 use Rattle.promise.specs.Answer.{Said, done, clean, column, row, refused}
 use Rattle.promise.specs.Decide.{both, same, good, outside, differing, filling, one_byte}
-use Rattle.promise.specs.Worked.{Claim, repairs, zeros, tile_10, mends, admitted_tile, tested, claimed}
+use Rattle.promise.specs.Worked.{Claim, repairs, zeros, tile_10, mends, admitted_tile, tested}
 use Rattle.promise.specs.Worked as worked
 use Rattle.promise.specs.WorkedOld.{tile_14, worked_14}
+use Rattle.promise.proofs.Worked.{claimed}
 use Rattle.reel.specs.Answer.{tile}
 use Rattle.restorer.specs.Restore.{RestoreTold}
 use Rattle.restorer.specs.Promise as restorer

@@ -8,7 +8,7 @@ use Rattle.code.specs.Tile.{tile_length, Good, text_of, EqualOutsideBoth, Bytes}
 use Rattle.code.specs.Place.{text_length_lem}
 use Rattle.code.specs.Fillings.{Sure}
 use Rattle.code.specs.Margin.{DifferOutside, EqualOutsideThree, Another}
-use Rattle.code.specs.Lost.{sure_lost, crossed_lost, three_lost, texts_apart, apart_texts}
+use Rattle.code.proofs.Lost.{sure_lost, crossed_lost, three_lost, texts_apart, apart_texts}
 use Rattle.code.specs.declared.Kind.{Kind}
 use Rattle.code.specs.declared.Line.{Line}
 use Rattle.code.specs.declared.Line.TheVariants.{Row, Column}

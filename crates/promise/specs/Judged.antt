@@ -5,7 +5,7 @@ use Rattle.std.proofs.Common.{sym, inr, ⊎_elim, arith}
 use Rattle.residue.specs.Size.{Size, Allowed}
 use Rattle.code.specs.Tile.{tile_length, Good, EqualOutsideBoth, Fills}
 use Rattle.code.specs.Margin.{DifferOutside}
-use Rattle.code.specs.Lost.{differ_or_agree}
+use Rattle.code.proofs.Lost.{differ_or_agree}
 use Rattle.code.specs.Count.{once_only}
 use Rattle.code.specs.Fillings.{fills_once}
 use Rattle.code.specs.Kind.{allowed_taken}

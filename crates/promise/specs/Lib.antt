@@ -1,4 +1,5 @@
--- The tile calls: what a reader must believe (`Answer`, `Calls`), and what follows from it.
+-- The tile calls: what a reader must believe (`Answer`, `Calls`), and what follows from it (that the worked cases are as claimed, and what
+-- that says of wrong programs, in proofs/).
 pub mod Answer
 pub mod Calls
 pub mod Admit
@@ -18,4 +19,3 @@ pub mod Worked
 pub mod WorkedOld
 pub mod WorkedJudged
 pub mod WorkedRecovered
-pub mod Shams

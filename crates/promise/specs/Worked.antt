@@ -1,18 +1,15 @@
 -- SPEC 10: the worked tiles 1 to 10 in one list, all claimed at once (tile 11, whose sheet stands above this crate, joins them in
 -- `sheet/specs/Worked.antt`, and the old tiles 13 to 17 stand in `WorkedOld`). The tiles are at p 5, l 2, written row by row, and every claim
--- is of both kinds; each is decided by a test that is computed, and the laws that the test is right. Assumes nothing.
-use Rattle.std.specs.Prelude.{◌≡◌, refl, List, [], ◌∷◌, ℕ, ◌+◌, ◌-◌, length, get_or}
+-- is of both kinds; each is decided by a test that is computed, and the laws that the test is right. That every claim holds is `Worked` of
+-- proofs/. Assumes nothing.
+use Rattle.std.specs.Prelude.{◌≡◌, refl, List, [], ◌∷◌, ℕ, ◌+◌, length}
 use Rattle.std.proofs.Common.{sym, ap, ◌∙◌, inr, arith}
-use Rattle.xor.specs.Xor.{◌⊕◌}
-use Rattle.xor.specs.Sum.{xor_below}
-use Rattle.code.specs.Tabulate.{tabulate}
-use Rattle.code.specs.Tile.{tile_length, place, cell, sum, Good, text_length, text_from, text_of, Writes}
+use Rattle.code.specs.Tile.{tile_length, Good, text_length, text_of, Writes}
 use Rattle.residue.specs.Test.{up_to}
 use Rattle.residue.specs.Order.{Order}
 use Rattle.code.specs.Slope.{Slope}
 use Rattle.code.specs.Kind.{Takes, taken_slope, allowed_taken}
 use Rattle.code.specs.Count.{Only, once_only}
-use Rattle.code.specs.Margin.{TwoGood, EqualOutsideThree}
 use Rattle.code.specs.Fillings.{fills_once}
 use Rattle.code.specs.Place.{text_length_lem}
 use Rattle.code.specs.OneLine.{number}
@@ -27,7 +24,7 @@ use Rattle.promise.specs.Calls.{Admitted, TileLength, WriteTold, ReadTold, Looke
 use Rattle.promise.specs.Admit.{admits}
 use Rattle.promise.specs.Doubt as doubt
 use Rattle.promise.specs.Once.{Single, write_told_once, read_told_once, repair_told_once, fill_told_once}
-use Rattle.promise.specs.Decide.{Test, never, so, both, some, equal, at_most, equals, same, sum_of, good, common_is, not_good, outside, differing, filling, explaining, more_bytes, one_byte, none, no_line, uncrossed, no_filling, order_is, Each, each, numbered}
+use Rattle.promise.specs.Decide.{Test, never, so, both, equal, at_most, same, sum_of, good, common_is, not_good, filling, explaining, more_bytes, one_byte, no_line, no_filling, order_is}
 
 -- ---- the tiles
 
@@ -237,38 +234,3 @@ tested (repairs tile said new) =
     so (admitted_tile tile (mends tile said new)) (λ t k. exactly (RepairTold k 5 2 tile) (repair_told_once k 5 2 tile) said new (t k))
 tested (fills tile a b said new) =
     so (admitted_tile tile (filled tile a b said new)) (λ t k. exactly (FillTold k 5 2 tile a b) (fill_told_once k 5 2 tile a b) said new (t k))
-
--- what the tests show
-computed : Each Claim cases × Each Claim others
-unfolding each tested mends filled admitted_tile writing some same good not_good outside differing filling more_bytes one_byte none no_line uncrossed no_filling up_to sum cell place text_from text_of tabulate xor_below ◌⊕◌
-computed = (both (each Claim tested cases) (each Claim tested others)).shows tt
-
--- THE WORKED TILES: every claim of the list holds
-pub worked : Each Claim cases
-worked = computed.0
-
--- and every claim of the others
-pub others_worked : Each Claim others
-others_worked = computed.1
-
--- the claim of a case by its number in SPEC 10
-pub claimed : (k : ℕ) → Claim (get_or cases (k - 1) (writes text_1 tile_1 0))
-claimed k = numbered Claim (writes text_1 tile_1 0) worked.0 cases worked (k - 1)
-
--- and of the others, from 1 in the order in which they stand above
-pub other_claimed : (k : ℕ) → Claim (get_or others (k - 1) (spoiled changed_3))
-other_claimed k = numbered Claim (spoiled changed_3) others_worked.0 others others_worked (k - 1)
-
--- SPEC 10, the margin: zeros and tile 1 are good and different, and agree outside columns 0, 2 and 3
-pub worked_pair : TwoGood 5 2 zeros tile_1 × EqualOutsideThree 5 (Column 0) (Column 2) (Column 3) zeros tile_1
-unfolding good up_to sum cell place xor_below ◌⊕◌
-worked_pair = (
-  record {
-    size = refl;
-    size_other = refl;
-    good = (good 5 2 zeros).shows tt;
-    good_other = (good 5 2 tile_1).shows tt;
-    apart = λ e. let q : get_or zeros 0 0 ≡ get_or tile_1 0 0 = ap (λ (x : List ℕ). get_or x 0 0) e in omega arith;
-  },
-  λ i j hi hj d e f. let q : j ≡ 1 = omega arith in rw q ((equals (λ r. cell 5 zeros r 1) (λ r. cell 5 tile_1 r 1) 4).shows tt i hi),
-)

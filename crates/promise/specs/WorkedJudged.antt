@@ -6,7 +6,7 @@ use Rattle.xor.specs.Xor.{◌⊕◌}
 use Rattle.xor.specs.Sum.{xor_below}
 use Rattle.residue.specs.Test.{up_to}
 use Rattle.code.specs.Tile.{tile_length, place, cell, sum}
-use Rattle.code.specs.Lost.{differ_not_agree}
+use Rattle.code.proofs.Lost.{differ_not_agree}
 use Rattle.code.specs.OneLine.{number}
 use Rattle.code.specs.declared.Kind.TheVariants.{New}
 use Rattle.code.specs.declared.Line.{Line}

@@ -9,7 +9,8 @@ use Rattle.size.specs.Shams.{size_5}
 use Rattle.promise.specs.Answer.{done, clean, row}
 use Rattle.promise.specs.Admit.{admits}
 use Rattle.promise.specs.Explain.{row_fills}
-use Rattle.promise.specs.Worked.{zeros, tile_6, taken_5_2, claimed, worked_pair}
+use Rattle.promise.specs.Worked.{zeros, tile_6, taken_5_2}
+use Rattle.promise.proofs.Worked.{claimed, worked_pair}
 use Rattle.restorer.specs.Restore.{RestoreTold}
 use Rattle.restorer.specs.Once.{restore_told_once}
 use Rattle.restorer.specs.Promise.{Lines, lone_first, lone_second, sure_filled}

@@ -3,7 +3,7 @@ use Rattle.std.specs.Prelude.{◌≡◌, refl, List, ℕ, get_or}
 use Rattle.std.proofs.Common.{sym, ap, ◌∙◌, arith}
 use Rattle.code.specs.declared.Kind.{Kind}
 use Rattle.promise.specs.Worked.{zeros, tile_1, tile_4, copied_1}
-use Rattle.promise.specs.Shams.{wrong_answer, wrong_bytes}
+use Rattle.promise.proofs.Shams.{wrong_answer, wrong_bytes}
 use Rattle.sheet.specs.Sheet.{records}
 use Rattle.sheet.specs.Answer.{Said, corrected, refused}
 use Rattle.sheet.specs.Judge.{judged_count}

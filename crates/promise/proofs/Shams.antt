@@ -18,10 +18,12 @@ use Rattle.promise.specs.Name.{line_said, one_or_more}
 use Rattle.promise.specs.Once.{repair_told_once, inspect_told_once, recover_told_once}
 use Rattle.promise.specs.Promise.{read_after_write, write_refused, recover_refused}
 use Rattle.promise.specs.Judged.{unallowed_judged}
-use Rattle.promise.specs.Worked.{Exactly, claimed, other_claimed, taken_5_2, zeros, text_1, tile_1, text_2, tile_2, tile_4, tile_5, tile_6, tile_8, tile_9, filled_9, tile_10, copied_1, hurt_2}
+use Rattle.promise.specs.Worked.{Exactly, taken_5_2, zeros, text_1, tile_1, text_2, tile_2, tile_4, tile_5, tile_6, tile_8, tile_9, filled_9, tile_10, copied_1, hurt_2}
 use Rattle.promise.specs.WorkedOld as old
 use Rattle.promise.specs.WorkedJudged.{Judges, judgement}
-use Rattle.promise.specs.WorkedRecovered.{nines, recovery_claimed}
+use Rattle.promise.specs.WorkedRecovered.{nines}
+use Rattle.promise.proofs.Worked.{claimed, other_claimed}
+use Rattle.promise.proofs.WorkedRecovered.{recovery_claimed}
 
 -- where a call allows one outcome, it does not allow another answer, nor other bytes
 module _ {Answer : Type 0} (R : Answer → List ℕ → Type 0) {s : Answer} {x : List ℕ} (told : Exactly R s x) (t : Answer) (y : List ℕ) where
