@@ -1,5 +1,5 @@
 -- What follows from the relations, on every reel and at every place. Assumes nothing.
-use Rattle.std.specs.Prelude.{◌≡◌, List, [], ℕ, ◌+◌, ◌-◌, ◌≤◌, length, drop}
+use Rattle.std.specs.Prelude.{◌≡◌, List, [], ℕ, ◌+◌, ◌≤◌, length, drop}
 use Rattle.std.proofs.Common.{ap, ◌∙◌, subst, arith, length-drop, drop_of_length-le, length-take-le}
 use Rattle.std.specs.Borrow.{Bor}
 use Rattle.residue.specs.Size.{Size}

@@ -1,5 +1,5 @@
 -- Wrong programs, each broken by a theorem: no such program meets the contract. Assumes nothing.
-use Rattle.std.specs.Prelude.{◌≡◌, refl, List, ℕ, get_or}
+use Rattle.std.specs.Prelude.{◌≡◌, List, ℕ, get_or}
 use Rattle.std.proofs.Common.{sym, ap, ◌∙◌, arith}
 use Rattle.code.specs.declared.Kind.{Kind}
 use Rattle.promise.specs.Worked.{zeros, tile_1, tile_4, copied_1}

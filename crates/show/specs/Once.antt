@@ -1,5 +1,5 @@
 -- The contracts settle the answers and the bytes: two walks along one window come to the same. Assumes nothing.
-use Rattle.std.specs.Prelude.{Bool, ◌≡◌, refl, List, ◌++◌, ℕ, ◌+◌, ℤ}
+use Rattle.std.specs.Prelude.{Bool, ◌≡◌, refl, List, ◌++◌, ℕ, ℤ}
 use Rattle.std.proofs.Common.{sym, ap, subst, ◌∙◌, arith}
 use Rattle.promise.specs.Answer.{Said}
 use Rattle.restorer.specs.Once.{restore_told_once}

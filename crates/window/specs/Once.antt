@@ -5,7 +5,6 @@ use Rattle.code.specs.Tile.{tile_length}
 use Rattle.code.specs.declared.Line.{Line}
 use Rattle.size.specs.Refusal.{number_of}
 use Rattle.size.specs.Once.{refusal_of, back}
-use Rattle.promise.specs.Answer as tile
 use Rattle.promise.specs.Once.{Single, fill_told_once, read_told_once}
 use Rattle.restorer.specs.Once.{restore_told_once}
 use Rattle.sheet.specs.Once.{correct_told_once}

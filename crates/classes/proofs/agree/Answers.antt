@@ -1,11 +1,10 @@
 -- `classes::agree` meets its contract. The loop's invariant: the sum of each class passed is 0.
-use mathlib.Core.Path.{◌≡◌, sym, ap, ◌∙◌}
-use Prim.Native.Nat.{ℕ, ◌+◌, ◌*◌, ◌%◌, ◌≤◌, ◌<◌, ◌-◌}
+use mathlib.Core.Path.{sym, ap, ◌∙◌}
+use Prim.Native.Nat.{◌+◌, ◌*◌, ◌≤◌}
 use native.Mathlib.Nat.{mod-lt, mul-le-mul}
 use native.Mathlib.Omega.{arith}
 use borrow.Author.Count.{below_more}
 use Rattle.residue.specs.Remainder.{same}
-use Rattle.code.specs.Classes.{class_sum}
 use Rattle.code.specs.Held.{held}
 use Rattle.classes.proofs.agree.Goals as goal
 

@@ -1,10 +1,6 @@
 -- `classes::agree` meets its contract. The loop's invariant: the sum of each class passed is 0.
-use mathlib.Core.Path.{◌≡◌, sym, ap, ◌∙◌}
+use mathlib.Core.Path.{◌≡◌}
 use Prim.Native.Nat.{ℕ, ◌+◌, ◌*◌, ◌%◌, ◌≤◌, ◌<◌, ◌-◌}
-use native.Mathlib.Nat.{mod-lt, mul-le-mul}
-use native.Mathlib.Omega.{arith}
-use borrow.Author.Count.{below_more}
-use Rattle.residue.specs.Remainder.{same}
 use Rattle.code.specs.Classes.{class_sum}
 use Rattle.code.specs.Held.{held}
 use Rattle.classes.proofs.agree.Given as goal

@@ -1,10 +1,10 @@
 -- `classes::class_sum` meets its contract. The loop's invariant: q is the k-th offset, and the sum is that of the k offsets before it.
 --
 use mathlib.Core.Path.{◌≡◌, sym, ap, ◌∙◌}
-use Prim.Native.Nat.{ℕ, ◌+◌, ◌*◌, ◌%◌, ◌≤◌, ◌<◌, ◌-◌}
+use Prim.Native.Nat.{ℕ, ◌+◌, ◌*◌, ◌%◌, ◌≤◌}
 use native.Mathlib.Nat.{mod-lt, mul-le-mul}
 use native.Mathlib.Omega.{arith}
-use Rattle.residue.specs.Power.{spun, spun_first, spun_next}
+use Rattle.residue.specs.Power.{spun_first, spun_next}
 use Rattle.code.specs.Classes.{class_sum, class_none}
 use Rattle.code.specs.Held.{held}
 use Rattle.classes.specs.Step.{class_step}

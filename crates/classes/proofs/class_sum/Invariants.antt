@@ -1,13 +1,10 @@
 -- `classes::class_sum` meets its contract. The loop's invariant: q is the k-th offset, and the sum is that of the k offsets before it.
 --
-use mathlib.Core.Path.{◌≡◌, sym, ap, ◌∙◌}
-use Prim.Native.Nat.{ℕ, ◌+◌, ◌*◌, ◌%◌, ◌≤◌, ◌<◌, ◌-◌}
-use native.Mathlib.Nat.{mod-lt, mul-le-mul}
-use native.Mathlib.Omega.{arith}
-use Rattle.residue.specs.Power.{spun, spun_first, spun_next}
-use Rattle.code.specs.Classes.{class_sum, class_none}
+use mathlib.Core.Path.{◌≡◌}
+use Prim.Native.Nat.{◌≤◌, ◌<◌, ◌-◌}
+use Rattle.residue.specs.Power.{spun}
+use Rattle.code.specs.Classes.{class_sum}
 use Rattle.code.specs.Held.{held}
-use Rattle.classes.specs.Step.{class_step}
 use Rattle.classes.proofs.class_sum.Given as goal
 
 abbrev pub invariant-loop-k : goal.invariant-loop-k

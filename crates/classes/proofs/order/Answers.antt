@@ -1,7 +1,7 @@
 -- `classes::order` meets its contract. The loop's invariant: `power` is the n-th power of l, and none from the first to the one before
 -- it is 1. It ends, as one of the first p - 1 is.
 use mathlib.Core.Path.{◌≡◌, sym, ◌∙◌}
-use Prim.Native.Nat.{ℕ, ◌+◌, ◌%◌, ◌^◌, ◌≤◌, ◌<◌, ◌-◌}
+use Prim.Native.Nat.{ℕ, ◌+◌, ◌%◌, ◌^◌, ◌≤◌, ◌<◌}
 use native.Mathlib.Nat.{mod-lt, mul-le-mul}
 use native.Mathlib.Omega.{arith}
 use borrow.Author.Count.{below_more}

@@ -1,6 +1,5 @@
 -- `counterfrost::cf_correct` meets its contract.
 use mathlib.Core.Path.{refl}
-use borrow.Author.Rules.{rules}
 use Rattle.sheet.specs.Answer.{corrected, refused}
 use Rattle.counterfrost.proofs.cf_correct.Goals as goal
 

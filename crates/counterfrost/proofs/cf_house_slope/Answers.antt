@@ -1,5 +1,4 @@
 -- `counterfrost::cf_house_slope` meets its contract.
-use borrow.Author.Rules.{rules}
 use Rattle.counterfrost.specs.Fits.{house_fits}
 use Rattle.counterfrost.proofs.cf_house_slope.Goals as goal
 

@@ -1,5 +1,4 @@
 -- `counterfrost::cf_inspect` meets its contract.
-use borrow.Author.Rules.{rules}
 use Rattle.promise.specs.Answer.{repair_said}
 use Rattle.counterfrost.specs.Fits.{inspect_fits}
 use Rattle.counterfrost.proofs.cf_inspect.Goals as goal

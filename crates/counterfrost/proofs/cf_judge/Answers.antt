@@ -1,5 +1,4 @@
 -- `counterfrost::cf_judge` meets its contract.
-use borrow.Author.Rules.{rules}
 use Rattle.promise.specs.Answer.{outcome_said}
 use Rattle.counterfrost.proofs.cf_judge.Goals as goal
 

@@ -1,6 +1,5 @@
 -- `counterfrost::cf_lay` meets its contract.
 use mathlib.Core.Path.{refl}
-use borrow.Author.Rules.{rules}
 use Rattle.printer.specs.Lay.{laid, refused}
 use Rattle.counterfrost.proofs.cf_lay.Goals as goal
 

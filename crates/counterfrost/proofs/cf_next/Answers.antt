@@ -1,6 +1,5 @@
 -- `counterfrost::cf_next` meets its contract.
 use mathlib.Core.Path.{refl}
-use borrow.Author.Rules.{rules}
 use Rattle.reel.specs.Answer.{tile, end, refused}
 use Rattle.reel.specs.Told.{tile_flags}
 use Rattle.counterfrost.specs.Numbers.{tile_numbers}

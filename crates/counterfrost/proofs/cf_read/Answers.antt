@@ -1,5 +1,4 @@
 -- `counterfrost::cf_read` meets its contract.
-use borrow.Author.Rules.{rules}
 use Rattle.promise.specs.Answer.{outcome_said}
 use Rattle.counterfrost.proofs.cf_read.Goals as goal
 

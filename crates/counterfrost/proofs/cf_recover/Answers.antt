@@ -1,5 +1,4 @@
 -- `counterfrost::cf_recover` meets its contract.
-use borrow.Author.Rules.{rules}
 use Rattle.promise.specs.Answer.{repair_said}
 use Rattle.counterfrost.specs.Fits.{recover_fits}
 use Rattle.counterfrost.proofs.cf_recover.Goals as goal

@@ -1,5 +1,4 @@
 -- `counterfrost::cf_repair` meets its contract.
-use borrow.Author.Rules.{rules}
 use Rattle.promise.specs.Answer.{repair_said}
 use Rattle.counterfrost.specs.Fits.{repair_fits}
 use Rattle.counterfrost.proofs.cf_repair.Goals as goal

@@ -1,5 +1,4 @@
 -- `counterfrost::cf_takes` meets its contract.
-use borrow.Author.Rules.{rules}
 use Rattle.size.specs.Answer.{judgement_said}
 use Rattle.counterfrost.proofs.cf_takes.Goals as goal
 

@@ -1,6 +1,5 @@
 -- `counterfrost::of_house` meets its contract.
 use native.Mathlib.Omega.{arith}
-use borrow.Author.Rules.{rules}
 use Rattle.counterfrost.proofs.of_house.Goals as goal
 
 pub overflow_cast-l : goal.overflow_cast-l

@@ -1,6 +1,5 @@
 -- `counterfrost::of_repair` meets its contract.
 use native.Mathlib.Omega.{arith}
-use borrow.Author.Rules.{rules}
 use Rattle.counterfrost.proofs.of_repair.Goals as goal
 
 pub overflow_cast-r : goal.overflow_cast-r

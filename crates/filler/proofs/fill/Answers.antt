@@ -1,7 +1,6 @@
 -- `filler::fill` meets its contract.
 use mathlib.Core.Path.{refl, ◌∙◌}
 use native.Mathlib.Omega.{arith}
-use borrow.Author.Rules.{rules}
 use Rattle.code.specs.Says.{says_true, says_false}
 use Rattle.code.specs.Held.{held}
 use Rattle.promise.specs.Calls.{refuses, no_line}

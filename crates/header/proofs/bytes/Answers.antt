@@ -3,7 +3,6 @@ use mathlib.Core.Path.{refl}
 use native.Mathlib.Omega.{arith}
 use Rattle.flag.specs.Back.{number_fits}
 use Rattle.header.specs.Laid.{mark_fits}
-use borrow.Author.Rules.{rules}
 use Rattle.header.proofs.bytes.Goals as goal
 
 pub overflow_cast-result : goal.overflow_cast-result

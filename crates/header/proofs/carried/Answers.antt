@@ -1,5 +1,4 @@
 -- `header::carried` meets its contract.
-use borrow.Author.Rules.{rules}
 use Rattle.header.proofs.carried.Goals as goal
 
 pub returns-in_default : goal.returns-in_default

@@ -1,7 +1,6 @@
 -- `header::carries` meets its contract.
 use Rattle.code.specs.Says.{says_true, says_false, says_both}
 use Rattle.header.specs.Header.{Carried}
-use borrow.Author.Rules.{rules}
 use Rattle.header.proofs.carries.Goals as goal
 
 pub returns-then-carried : goal.returns-then-carried

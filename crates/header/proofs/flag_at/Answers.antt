@@ -1,7 +1,6 @@
 -- `header::flag_at` meets its contract.
 use mathlib.Core.Path.{◌∙◌}
 use native.Mathlib.Omega.{arith}
-use borrow.Author.Rules.{rules}
 use Rattle.header.specs.Mark.{flag_there}
 use Rattle.header.proofs.flag_at.Goals as goal
 

@@ -3,7 +3,6 @@ use mathlib.Core.Path.{sym, ◌∙◌}
 use Prim.Native.Nat.{◌+◌}
 use Rattle.header.specs.Mark.{number_marked, no_mark}
 use Rattle.header.specs.declared.Mark.TheVariants.{Plain, Flagged, Old}
-use borrow.Author.Rules.{rules}
 use Rattle.header.proofs.mark_at.Goals as goal
 
 pub returns-then-number-mark_number : goal.returns-then-number-mark_number

@@ -1,7 +1,6 @@
 -- `header::read` meets its contract.
 use native.Mathlib.Omega.{arith}
 use Rattle.header.specs.Laid.{counted}
-use borrow.Author.Rules.{rules}
 use Rattle.header.proofs.read.Goals as goal
 
 pub bounds-reel-at : goal.bounds-reel-at

@@ -1,11 +1,9 @@
 -- `house::slope` meets its contract: the code's own table passes the test of the rule, which antt computes. The loop's invariant: the table
 -- keeps the rule, and none of the sizes passed is p.
-use mathlib.Core.Path.{◌≡◌}
-use Prim.Native.Nat.{ℕ, ◌≤◌, ◌<◌, ◌-◌}
 use native.Mathlib.Omega.{arith}
 use borrow.Author.Count.{below_more}
 use Rattle.residue.specs.Test.{up_to}
-use Rattle.house.specs.House.{entry_at, HouseTable, no_size, of_size}
+use Rattle.house.specs.House.{no_size, of_size}
 use Rattle.house.specs.SizeTest.{size_ok}
 use Rattle.house.specs.SlopeTest.{slope_ok, clear}
 use Rattle.house.specs.Table.{table_ok, table_sound}

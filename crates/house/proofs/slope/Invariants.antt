@@ -2,13 +2,7 @@
 -- keeps the rule, and none of the sizes passed is p.
 use mathlib.Core.Path.{◌≡◌}
 use Prim.Native.Nat.{ℕ, ◌≤◌, ◌<◌, ◌-◌}
-use native.Mathlib.Omega.{arith}
-use borrow.Author.Count.{below_more}
-use Rattle.residue.specs.Test.{up_to}
-use Rattle.house.specs.House.{entry_at, HouseTable, no_size, of_size}
-use Rattle.house.specs.SizeTest.{size_ok}
-use Rattle.house.specs.SlopeTest.{slope_ok, clear}
-use Rattle.house.specs.Table.{table_ok, table_sound}
+use Rattle.house.specs.House.{entry_at, HouseTable}
 use Rattle.house.proofs.slope.Given as goal
 
 abbrev pub invariant-loop-i : goal.invariant-loop-i

@@ -1,6 +1,5 @@
 -- `judge::judge_lengths` meets its contract.
 use mathlib.Core.Path.{sym, ◌∙◌}
-use borrow.Author.Rules.{rules}
 use Rattle.promise.specs.Calls.{no_length, admitted}
 use Rattle.promise.specs.Admit.{admitted_well, admitted_judged, admitted_more}
 use Rattle.judge.proofs.judge_lengths.Goals as goal

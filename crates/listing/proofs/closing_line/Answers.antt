@@ -3,7 +3,6 @@ use native.Mathlib.Omega.{arith}
 use Rattle.reel.specs.Told.{refusal_stays}
 use Rattle.listing.specs.Reached.{reached_ends, reached_stops}
 use Rattle.listing.proofs.Other.{is_end}
-use borrow.Author.Rules.{rules}
 use Rattle.listing.proofs.closing_line.Goals as goal
 
 pub returns-in_default : goal.returns-in_default

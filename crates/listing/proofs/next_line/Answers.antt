@@ -2,7 +2,6 @@
 use native.Mathlib.Omega.{arith}
 use Rattle.listing.specs.Listing.{lists}
 use Rattle.listing.specs.Reached.{bytes_fit, bytes_are}
-use borrow.Author.Rules.{rules}
 use Rattle.listing.proofs.next_line.Goals as goal
 
 pub state-said-requires : goal.state-said-requires

@@ -1,12 +1,9 @@
 -- `listing::print_with` is safe and ends. The loop's invariant: what is left of the reel, and how many tiles stand before it. The measure is the
 -- length of what is left.
-use mathlib.Core.Path.{◌≡◌, refl}
+use mathlib.Core.Path.{◌≡◌}
 use Prim.Native.Nat.{◌≤◌}
-use native.Mathlib.Omega.{arith}
 use lib.ListN.{length}
-use borrow.Author.Rules.{rules}
-use Rattle.reel.proofs.Other.{no_tile}
-use Rattle.listing.specs.Reached.{Reached, reached_first, reached_less, reached_more}
+use Rattle.listing.specs.Reached.{Reached}
 use Rattle.listing.proofs.print_with.Given as goal
 
 abbrev pub invariant-loop-tile : goal.invariant-loop-tile

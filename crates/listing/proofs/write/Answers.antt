@@ -1,7 +1,6 @@
 -- `listing::write` is safe: the part that is written is within the line.
 use mathlib.Core.Path.{sym}
 use lib.Seq.{length-take-le}
-use borrow.Author.Rules.{rules}
 use Rattle.listing.proofs.write.Goals as goal
 
 pub slice_bounds-bytes-end : goal.slice_bounds-bytes-end

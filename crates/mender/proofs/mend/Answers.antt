@@ -1,7 +1,6 @@
 -- `mender::mend` meets its contract: the change of a line is added, and else the tile stays.
 use mathlib.Core.Path.{◌∙◌}
 use native.Mathlib.Omega.{arith}
-use borrow.Author.Rules.{rules}
 use Rattle.cells.specs.Change.{added_changed}
 use Rattle.mender.specs.Mended.{one_in}
 use Rattle.mender.proofs.Other.{kept}

@@ -1,6 +1,5 @@
 -- `mender::name` meets its contract: what is changed in a line is one byte, or two and more.
 use native.Mathlib.Omega.{arith}
-use borrow.Author.Rules.{rules}
 use Rattle.mender.specs.Called.{called_line, called_cell}
 use Rattle.mender.proofs.name.Goals as goal
 

@@ -1,7 +1,6 @@
 -- `mender::recover` meets its contract.
 use mathlib.Core.Path.{refl}
 use native.Mathlib.Omega.{arith}
-use borrow.Author.Rules.{rules}
 use Rattle.promise.specs.Calls.{RecoverTold}
 use Rattle.promise.specs.Admit.{admitted_well, slope_of_lem}
 use Rattle.mender.specs.Mended.{line_in, recover_ends}

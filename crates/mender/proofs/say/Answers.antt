@@ -1,5 +1,4 @@
 -- `mender::say` meets its contract: each case has its own answer.
-use borrow.Author.Rules.{rules}
 use Rattle.mender.specs.Mended.{nothing, line, more, doubtful}
 use Rattle.mender.proofs.say.Goals as goal
 

@@ -2,7 +2,6 @@
 use mathlib.Core.Path.{ap, ◌∙◌}
 use native.Mathlib.Omega.{arith}
 use lib.ListN.{length}
-use borrow.Author.Rules.{rules}
 use Rattle.code.specs.Place.{text_length_lem}
 use Rattle.cells.specs.Change.{changed_added, text_added}
 use Rattle.mender.specs.Mended.{one_in}
@@ -10,13 +9,12 @@ use Rattle.mender.proofs.Other.{left}
 use Rattle.mender.proofs.take_mended.Goals as goal
 
 pub add_to_text-requires : goal.add_to_text-requires
-add_to_text-requires c =
-    (
-      c.requires.0.low,
-      c.requires.0.high,
-      ap length c.take-in-One.ensures ∙ text_length_lem c.args.p _,
-      one_in c.args.p c.in-One.is c.requires.1,
-    )
+add_to_text-requires c = (
+  c.requires.0.low,
+  c.requires.0.high,
+  ap length c.take-in-One.ensures ∙ text_length_lem c.args.p _,
+  one_in c.args.p c.in-One.is c.requires.1,
+)
 
 pub returns-in-Nothing : goal.returns-in-Nothing
 returns-in-Nothing c =

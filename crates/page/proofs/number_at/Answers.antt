@@ -1,7 +1,6 @@
 -- `page::number_at` meets its contract.
 use mathlib.Core.Path.{sym}
 use lib.ListN.{get_or-eq_default}
-use borrow.Author.Rules.{rules}
 use Rattle.page.proofs.number_at.Goals as goal
 
 pub returns : goal.returns

@@ -1,7 +1,6 @@
 -- `page::past` meets its contract.
 use native.Mathlib.Nat.{add-zero}
 use borrow.Author.Tests.{eq-eqb, ne_eqb}
-use borrow.Author.Rules.{rules}
 use Rattle.page.specs.Page.{taken}
 use Rattle.page.proofs.past.Goals as goal
 

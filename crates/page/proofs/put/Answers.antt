@@ -1,5 +1,4 @@
 -- `page::put` meets its contract.
-use borrow.Author.Rules.{rules}
 use Rattle.page.specs.Then.{put_copied}
 use Rattle.page.proofs.put.Goals as goal
 

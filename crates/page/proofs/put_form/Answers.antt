@@ -1,10 +1,8 @@
 -- `page::put_form` meets its contract. The loop's invariant: what stands on the page and what is left of the form make the whole. Assumes
 -- nothing.
-use Prim.Native.Nat.{◌-◌}
 use native.Mathlib.Omega.{arith}
-use lib.ListN.{length, get_or}
-use borrow.Author.Rules.{rules}
-use Rattle.page.specs.Form.{Filling, nothing_filled, taken_few, next_room, more_filled, all_filled, room_filled}
+use lib.ListN.{get_or}
+use Rattle.page.specs.Form.{nothing_filled, taken_few, next_room, more_filled, all_filled, room_filled}
 use Rattle.page.proofs.put_form.Goals as goal
 
 pub loop-i-init : goal.loop-i-init

@@ -1,6 +1,5 @@
 -- `page::put_number` meets its contract.
 use native.Mathlib.Omega.{arith}
-use borrow.Author.Rules.{rules}
 use Rattle.lettering.specs.Decimal.{spelled}
 use Rattle.page.proofs.put_number.Goals as goal
 

@@ -3,7 +3,6 @@ use mathlib.Core.Path.{sym}
 use Prim.Native.Nat.{◌-◌}
 use native.Mathlib.Omega.{arith}
 use lib.ListN.{take, drop, length-take}
-use borrow.Author.Rules.{rules}
 use Rattle.lettering.specs.Line.{ascii}
 use Rattle.lettering.specs.Decimal.{spelled}
 use Rattle.page.specs.Then.{◌then◌, aligned, filled_up}

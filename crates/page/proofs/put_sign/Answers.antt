@@ -1,7 +1,6 @@
 -- `page::put_sign` meets its contract.
 use native.Mathlib.Omega.{arith}
 use borrow.Author.Tests.{eq-eqb, ne_eqb}
-use borrow.Author.Rules.{rules}
 use Rattle.page.specs.Page.{sign_filled}
 use Rattle.page.proofs.put_sign.Goals as goal
 

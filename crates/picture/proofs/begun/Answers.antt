@@ -1,5 +1,4 @@
 -- `picture::begun` meets its contract.
-use borrow.Author.Rules.{rules}
 use Rattle.page.specs.Then.{puts_nothing}
 use Rattle.picture.specs.Picture.{begun_shown}
 use Rattle.picture.proofs.begun.Goals as goal

@@ -1,5 +1,4 @@
 -- `picture::corrected` meets its contract.
-use borrow.Author.Rules.{rules}
 use Rattle.picture.specs.Picture.{corrected_line}
 use Rattle.picture.proofs.corrected.Goals as goal
 

@@ -1,5 +1,4 @@
 -- `picture::ended` meets its contract.
-use borrow.Author.Rules.{rules}
 use Rattle.page.specs.Then.{◌then◌}
 use Rattle.picture.specs.Picture.{ended_shown}
 use Rattle.picture.proofs.ended.Goals as goal

@@ -1,5 +1,4 @@
 -- `picture::stopped` meets its contract.
-use borrow.Author.Rules.{rules}
 use Rattle.page.specs.Then.{◌then◌}
 use Rattle.picture.specs.Picture.{stopped_shown}
 use Rattle.picture.proofs.stopped.Goals as goal

@@ -1,6 +1,6 @@
 -- `printer::lay` meets its contract. The kind, the size, the slope and the length are judged to be right; then the flags can be carried, so
 -- that the record may be laid; of the header's bytes those are copied that count.
-use Rattle.std.proofs.Common.{◌≡◌, sym, arith, length, take}
+use Rattle.std.proofs.Common.{sym, arith}
 use Rattle.code.specs.Says.{says_true, says_false}
 use Rattle.header.specs.Header.{Carries}
 use Rattle.header.specs.Record.{Fit}

@@ -5,7 +5,6 @@ use native.Mathlib.Omega.{arith}
 use Rattle.reel.specs.Told.{tile_taken, tile_within, after_stays}
 use Rattle.reel.specs.Answer.{tile, found_said}
 use Rattle.reel.proofs.Other.{no_tile}
-use borrow.Author.Rules.{rules}
 use Rattle.reel.proofs.after.Goals as goal
 
 pub returns-in_default : goal.returns-in_default

@@ -4,11 +4,9 @@ use Prim.Native.Nat.{ℕ}
 use native.Mathlib.Nat.{add-sub_cancel_left}
 use lib.ListN.{take, drop}
 use native.Mathlib.Omega.{arith}
-use borrow.Rule.Slice.Prefix.{sl_ptr_p}
 use Rattle.reel.specs.Answer.{tile, found_said}
 use Rattle.reel.specs.Told.{tile_taken, tile_within, hands_none}
 use Rattle.reel.proofs.Other.{no_tile}
-use borrow.Author.Rules.{rules}
 use Rattle.reel.proofs.bytes.Goals as goal
 
 pub returns-in_default : goal.returns-in_default

@@ -2,12 +2,10 @@
 use mathlib.Core.Path.{ap}
 use Prim.Native.Nat.{ℕ, ◌+◌}
 use native.Mathlib.Omega.{arith}
-use borrow.Author.Tests.{not-true, not-false}
 use Rattle.code.specs.Says.{says_true, says_false}
 use Rattle.size.specs.Told.{judged_well}
 use Rattle.reel.specs.Calls.{refuses, no_line, tile_cut}
 use Rattle.reel.specs.Told.{stands_told}
-use borrow.Author.Rules.{rules}
 use Rattle.reel.proofs.judged.Goals as goal
 
 pub tile_length-requires : goal.tile_length-requires

@@ -1,7 +1,6 @@
 -- `reel::next` meets its contract: the tests stand in the order of the refusals.
 use native.Mathlib.Omega.{arith}
 use Rattle.reel.specs.Calls.{ends, start_cut, no_mark, header_cut, headed}
-use borrow.Author.Rules.{rules}
 use Rattle.reel.proofs.next.Goals as goal
 
 pub returns-then-reel-at : goal.returns-then-reel-at

@@ -4,7 +4,6 @@ use Prim.Native.Nat.{◌-◌}
 use native.Mathlib.Omega.{arith}
 use lib.ListN.{length, take, drop_of_length-le}
 use lib.Seq.{take-nil}
-use borrow.Author.Rules.{rules}
 use Rattle.reel.proofs.rest.Goals as goal
 
 pub returns-then-start-reel : goal.returns-then-start-reel

@@ -1,6 +1,5 @@
 -- `restorer::of_repair` meets its contract: each answer of repair says the same.
 use mathlib.Core.Path.{refl}
-use borrow.Author.Rules.{rules}
 use Rattle.restorer.proofs.of_repair.Goals as goal
 
 pub returns-in-Cell : goal.returns-in-Cell

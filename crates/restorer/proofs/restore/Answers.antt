@@ -1,5 +1,4 @@
 -- `restorer::restore` meets its contract: by the two flags, what is said and left is what fill or repair promises.
-use borrow.Author.Rules.{rules}
 use Rattle.restorer.specs.Told.{flags_told}
 use Rattle.restorer.proofs.restore.Goals as goal
 

@@ -1,7 +1,6 @@
 -- `sheet::add_byte` meets its contract.
 use native.Mathlib.Omega.{arith}
 use lib.ListN.{length-set}
-use borrow.Author.Rules.{rules}
 use Rattle.sheet.specs.Make.{byte_added}
 use Rattle.sheet.proofs.add_byte.Goals as goal
 

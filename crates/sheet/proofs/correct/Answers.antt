@@ -1,5 +1,4 @@
 -- `sheet::correct` meets its contract.
-use borrow.Author.Rules.{rules}
 use Rattle.promise.specs.Admit.{admitted_well, slope_of_lem}
 use Rattle.sheet.specs.Calls.{refuses, faulty, corrects}
 use Rattle.sheet.specs.Judge.{judged_sound}

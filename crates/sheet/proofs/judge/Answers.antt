@@ -1,10 +1,9 @@
 -- `sheet::judge` meets its contract. The loop's invariant: none of the records passed is faulty.
 use mathlib.Core.Path.{◌≡◌}
-use Prim.Native.Nat.{◌-◌, ◌≤◌}
 use native.Mathlib.Omega.{arith}
 use borrow.Author.Tests.{not-true, not-false}
 use Rattle.code.specs.Says.{says_true, says_false}
-use Rattle.sheet.specs.Sheet.{records, Whole, SoundBelow}
+use Rattle.sheet.specs.Sheet.{records}
 use Rattle.sheet.specs.Calls.{cut, no_mark, no_place, sound}
 use Rattle.sheet.specs.Judge.{sound_none, sound_more}
 use Rattle.sheet.proofs.judge.Goals as goal
@@ -31,14 +30,13 @@ returns-then-not-has_place c =
     (says_false {b = c.has_place.result} (rw (c.nth-next.ensures.names.0, c.nth-next.ensures.names.1) at c.has_place.ensures) c.if-not-has_place.true)
 
 pub loop-k-preserved : goal.loop-k-preserved
-loop-k-preserved c =
-    (
-      c.loop-k.invariant.0,
-      omega arith,
-      sound_more c.args.p c.args.sheet.now c.loop-k.k c.loop-k.invariant.2
-          (says_true {b = c.nth-next.result.marked} c.nth-next.ensures.says (not-false c.nth-next.result.marked c.if-not-next.false))
-          (says_true {b = c.has_place.result} (rw (c.nth-next.ensures.names.0, c.nth-next.ensures.names.1) at c.has_place.ensures) c.if-not-has_place.false),
-    )
+loop-k-preserved c = (
+  c.loop-k.invariant.0,
+  omega arith,
+  sound_more c.args.p c.args.sheet.now c.loop-k.k c.loop-k.invariant.2
+      (says_true {b = c.nth-next.result.marked} c.nth-next.ensures.says (not-false c.nth-next.result.marked c.if-not-next.false))
+      (says_true {b = c.has_place.result} (rw (c.nth-next.ensures.names.0, c.nth-next.ensures.names.1) at c.has_place.ensures) c.if-not-has_place.false),
+)
 
 pub returns : goal.returns
 returns c =

@@ -1,10 +1,8 @@
 -- `sheet::make` meets its contract. The loop's invariant: the records passed are made.
 use mathlib.Core.Path.{◌≡◌, ◌∙◌}
-use Prim.Native.Nat.{◌-◌, ◌≤◌}
 use native.Mathlib.Omega.{arith}
-use borrow.Author.Rules.{rules}
 use Rattle.sheet.specs.Sheet.{records}
-use Rattle.sheet.specs.Make.{Made, made_none, cell_within, made_more, made_totals, made_corrects}
+use Rattle.sheet.specs.Make.{made_none, cell_within, made_more, made_totals, made_corrects}
 use Rattle.sheet.proofs.make.Goals as goal
 
 pub loop-made-init : goal.loop-made-init

@@ -2,7 +2,6 @@
 use mathlib.Core.Path.{refl}
 use Prim.Native.Nat.{◌+◌, ◌*◌}
 use Rattle.sheet.specs.Judge.{mark_says}
-use borrow.Author.Rules.{rules}
 use Rattle.sheet.proofs.nth.Goals as goal
 
 pub returns : goal.returns

@@ -1,14 +1,12 @@
 -- `show::along` meets its contract.
-use Prim.Native.Nat.{◌-◌}
 use native.Mathlib.Omega.{arith}
-use lib.ListN.{length}
-use mathlib.Core.Path.{◌≡◌, ap}
+use mathlib.Core.Path.{ap}
 use Rattle.show.specs.declared.Walk.{Walk}
 use borrow.Author.Rules.{rules}
 use Rattle.reel.specs.Walks.{moves_on}
 use Rattle.window.specs.Going.{looked_tile}
 use Rattle.show.specs.Show.{full, over}
-use Rattle.show.specs.Going.{Going, going_first, going_few, going_on, along_told}
+use Rattle.show.specs.Going.{going_first, going_few, going_on, along_told}
 use Rattle.show.proofs.along.Goals as goal
 
 pub loop-page-init : goal.loop-page-init

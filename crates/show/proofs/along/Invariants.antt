@@ -1,14 +1,8 @@
 -- `show::along` meets its contract.
 use Prim.Native.Nat.{◌-◌}
-use native.Mathlib.Omega.{arith}
 use lib.ListN.{length}
-use mathlib.Core.Path.{◌≡◌, ap}
-use Rattle.show.specs.declared.Walk.{Walk}
-use borrow.Author.Rules.{rules}
-use Rattle.reel.specs.Walks.{moves_on}
-use Rattle.window.specs.Going.{looked_tile}
-use Rattle.show.specs.Show.{full, over}
-use Rattle.show.specs.Going.{Going, going_first, going_few, going_on, along_told}
+use mathlib.Core.Path.{◌≡◌}
+use Rattle.show.specs.Going.{Going}
 use Rattle.show.proofs.along.Given as goal
 
 abbrev pub invariant-loop-page : goal.invariant-loop-page

@@ -4,7 +4,6 @@ use Rattle.reel.specs.Told.{tile_taken, tile_within}
 use Rattle.reel.specs.Walks.{moves_on}
 use Rattle.window.specs.Going.{within}
 use Rattle.show.specs.Going.{past_told}
-use borrow.Author.Rules.{rules}
 use Rattle.show.proofs.past.Goals as goal
 
 pub restore-state-requires : goal.restore-state-requires

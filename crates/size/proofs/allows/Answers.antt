@@ -1,11 +1,10 @@
 -- `size::allows` meets its contract. The loop's invariant: l is from 2 to p - 2, `power` is its i-th power, and none from the first to the
 -- one before it is 1.
-use mathlib.Core.Path.{◌≡◌, sym, ◌∙◌}
-use Prim.Native.Nat.{ℕ, ◌+◌, ◌%◌, ◌^◌, ◌≤◌, ◌<◌, ◌-◌}
+use mathlib.Core.Path.{sym, ◌∙◌}
+use Prim.Native.Nat.{◌^◌, ◌≤◌}
 use native.Mathlib.Nat.{mod-lt, mul-le-mul}
 use native.Mathlib.Omega.{arith}
 use borrow.Author.Count.{below_more}
-use borrow.Author.Tests.{not-true, not-false}
 use Rattle.residue.specs.Remainder.{below_pos}
 use Rattle.residue.specs.Power.{first_power, next_power, no_return_reaches, reaches_no_return}
 use Rattle.code.specs.Says.{says_true, says_false}
@@ -45,7 +44,7 @@ loop-i-preserved c =
 pub returns : goal.returns
 returns c =
     λ s. record {
-  low = omega arith;
-  high = omega arith;
-  reach = no_return_reaches _ _ s.prime (below_pos _ _ (omega arith) (omega arith)) (λ k h lt. c.loop-i.invariant.5 k (omega arith) h);
-}
+      low = omega arith;
+      high = omega arith;
+      reach = no_return_reaches _ _ s.prime (below_pos _ _ (omega arith) (omega arith)) (λ k h lt. c.loop-i.invariant.5 k (omega arith) h);
+    }

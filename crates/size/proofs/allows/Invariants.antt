@@ -1,14 +1,7 @@
 -- `size::allows` meets its contract. The loop's invariant: l is from 2 to p - 2, `power` is its i-th power, and none from the first to the
 -- one before it is 1.
-use mathlib.Core.Path.{◌≡◌, sym, ◌∙◌}
+use mathlib.Core.Path.{◌≡◌}
 use Prim.Native.Nat.{ℕ, ◌+◌, ◌%◌, ◌^◌, ◌≤◌, ◌<◌, ◌-◌}
-use native.Mathlib.Nat.{mod-lt, mul-le-mul}
-use native.Mathlib.Omega.{arith}
-use borrow.Author.Count.{below_more}
-use borrow.Author.Tests.{not-true, not-false}
-use Rattle.residue.specs.Remainder.{below_pos}
-use Rattle.residue.specs.Power.{first_power, next_power, no_return_reaches, reaches_no_return}
-use Rattle.code.specs.Says.{says_true, says_false}
 use Rattle.size.proofs.allows.Given as goal
 
 abbrev pub invariant-loop-i : goal.invariant-loop-i

@@ -1,6 +1,5 @@
 -- `window::look` meets its contract.
 use mathlib.Core.Path.{sym, ◌∙◌}
-use borrow.Author.Rules.{rules}
 use Rattle.window.specs.Window.{a_tile, the_end, last_stop, stop, more_behind, more_of_it}
 use Rattle.window.proofs.look.Goals as goal
 

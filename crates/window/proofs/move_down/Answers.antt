@@ -1,11 +1,11 @@
 -- `window::move_down` meets its contract.
-use mathlib.Core.Path.{◌≡◌, ◌∙◌}
-use Prim.Native.Nat.{◌+◌, ◌-◌, ◌≤◌, ◌<◌}
+use mathlib.Core.Path.{◌∙◌}
+use Prim.Native.Nat.{◌+◌, ◌<◌}
 use native.Mathlib.Omega.{arith}
 use lib.ListN.{length, drop, length-set}
 use lib.Seq.{paste-zero}
 use borrow.Author.Rules.{rules}
-use Rattle.window.specs.Going.{moved_down, moved_one}
+use Rattle.window.specs.Going.{moved_one}
 use Rattle.window.proofs.move_down.Goals as goal
 
 pub loop-i-init : goal.loop-i-init

@@ -1,12 +1,9 @@
 -- `window::seek` meets its contract: each tile that it passes shortens what is left.
-use lib.ListN.{length}
-use Prim.Native.Nat.{◌-◌}
 use native.Mathlib.Omega.{arith}
-use borrow.Author.Rules.{rules}
 use Rattle.reel.specs.Told.{tile_taken, tile_within}
 use Rattle.reel.specs.Walks.{moves_on}
 use Rattle.window.specs.Window.{comes}
-use Rattle.window.specs.Going.{Seeking, seeking_first, seeking_on, looked_tile}
+use Rattle.window.specs.Going.{seeking_first, seeking_on, looked_tile}
 use Rattle.window.proofs.seek.Goals as goal
 
 pub loop-tile-init : goal.loop-tile-init

@@ -1,12 +1,7 @@
 -- `window::seek` meets its contract: each tile that it passes shortens what is left.
 use lib.ListN.{length}
 use Prim.Native.Nat.{◌-◌}
-use native.Mathlib.Omega.{arith}
-use borrow.Author.Rules.{rules}
-use Rattle.reel.specs.Told.{tile_taken, tile_within}
-use Rattle.reel.specs.Walks.{moves_on}
-use Rattle.window.specs.Window.{comes}
-use Rattle.window.specs.Going.{Seeking, seeking_first, seeking_on, looked_tile}
+use Rattle.window.specs.Going.{Seeking}
 use Rattle.window.proofs.seek.Given as goal
 
 abbrev pub invariant-loop-tile : goal.invariant-loop-tile

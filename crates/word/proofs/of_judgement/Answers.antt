@@ -1,5 +1,4 @@
 -- `word::of_judgement` meets its contract.
-use borrow.Author.Rules.{rules}
 use Rattle.word.proofs.of_judgement.Goals as goal
 
 pub returns-in-Refused : goal.returns-in-Refused

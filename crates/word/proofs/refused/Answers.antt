@@ -1,6 +1,5 @@
 -- `word::refused` meets its contract.
 use native.Mathlib.Omega.{arith}
-use borrow.Author.Rules.{rules}
 use Rattle.word.specs.Fits.{number_fits}
 use Rattle.word.proofs.refused.Goals as goal
 

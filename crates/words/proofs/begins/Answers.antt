@@ -3,7 +3,6 @@ use mathlib.Core.Path.{sym}
 use native.Mathlib.Omega.{arith}
 use lib.Seq.{length-take-le}
 use Rattle.words.specs.Begin.{begun_length, says_begins}
-use borrow.Author.Rules.{rules}
 use Rattle.words.proofs.begins.Goals as goal
 
 pub returns-then-word-first : goal.returns-then-word-first

@@ -1,12 +1,7 @@
 -- `words::is` meets its contract, and ends. The loop's invariant: both are equally long, and equal at each place before i.
-use mathlib.Core.Path.{◌≡◌, ap}
-use mathlib.Core.List.{List}
+use mathlib.Core.Path.{◌≡◌}
 use Prim.Native.Nat.{ℕ, ◌-◌, ◌≤◌, ◌<◌}
-use native.Mathlib.Omega.{arith}
 use lib.ListN.{length, get_or}
-use lib.Seq.{ext_get_or}
-use borrow.Author.Count.{below_more}
-use borrow.Author.Rules.{rules}
 use Rattle.words.proofs.is.Given as goal
 
 abbrev pub invariant-loop-i : goal.invariant-loop-i

@@ -1,11 +1,7 @@
 -- `words::number` meets its contract, and ends. The loop's invariant: the signs before i are digits, and n is what they come to, or both
 -- are above the largest number.
-use mathlib.Core.Logic.{⊎_elim}
-use Prim.Native.Nat.{◌-◌}
 use native.Mathlib.Omega.{arith}
-use lib.ListN.{length}
-use borrow.Author.Rules.{rules}
-use Rattle.words.specs.Digits.{Held, held_first, held_more, is_value, is_large, not_digit, empty}
+use Rattle.words.specs.Digits.{held_first, held_more, is_value, is_large, not_digit, empty}
 use Rattle.words.proofs.number.Goals as goal
 use Rattle.words.proofs.number.Goals.{then-n-le-LARGEST, else-n-le-LARGEST}
 

@@ -1,11 +1,8 @@
 -- `words::number` meets its contract, and ends. The loop's invariant: the signs before i are digits, and n is what they come to, or both
 -- are above the largest number.
-use mathlib.Core.Logic.{⊎_elim}
 use Prim.Native.Nat.{◌-◌}
-use native.Mathlib.Omega.{arith}
 use lib.ListN.{length}
-use borrow.Author.Rules.{rules}
-use Rattle.words.specs.Digits.{Held, held_first, held_more, is_value, is_large, not_digit, empty}
+use Rattle.words.specs.Digits.{Held}
 use Rattle.words.proofs.number.Given as goal
 
 abbrev pub invariant-loop-i : goal.invariant-loop-i

@@ -1,8 +1,6 @@
 -- `words::sort_of` meets its contract: the word begins with two hyphens or not, and is held to the two options.
-use borrow.Author.Tests.{not-true, not-false}
 use Rattle.code.specs.Says.{says_true, says_false}
 use Rattle.words.specs.Words.{plain, force, text, unknown}
-use borrow.Author.Rules.{rules}
 use Rattle.words.proofs.sort_of.Goals as goal
 
 pub returns-then-not-begins : goal.returns-then-not-begins

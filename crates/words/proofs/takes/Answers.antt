@@ -1,5 +1,4 @@
 -- `words::takes` meets its contract: each sort, and of the options each command.
-use borrow.Author.Rules.{rules}
 use Rattle.words.specs.Words.{plain, repair_force, write_force, fill_force, correct_force, map_text}
 use Rattle.words.proofs.Other.{no_force, no_text, never}
 use Rattle.words.proofs.takes.Goals as goal

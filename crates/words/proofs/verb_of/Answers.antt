@@ -1,5 +1,4 @@
 -- `words::verb_of` meets its contract: the word is held to one name after the other.
-use borrow.Author.Rules.{rules}
 use Rattle.code.specs.Says.{says_true, says_false}
 use Rattle.words.specs.Words.{names}
 use Rattle.words.specs.Names.{none_named}

@@ -1,6 +1,5 @@
 -- `writer::read` meets its contract.
 use native.Mathlib.Omega.{arith}
-use borrow.Author.Rules.{rules}
 use Rattle.code.specs.Says.{says_true, says_false}
 use Rattle.promise.specs.Calls.{refuses, not_good, reads}
 use Rattle.promise.specs.Admit.{admitted_well, slope_of_lem}

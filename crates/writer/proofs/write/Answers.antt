@@ -1,7 +1,6 @@
 -- `writer::write` meets its contract.
 use mathlib.Core.Path.{refl, ◌∙◌}
 use native.Mathlib.Omega.{arith}
-use borrow.Author.Rules.{rules}
 use Rattle.code.specs.Held.{held}
 use Rattle.chain.specs.Cases.{held_totals}
 use Rattle.promise.specs.Calls.{refuses}
@@ -38,7 +37,7 @@ settle-requires c =
       slope = slope_of_lem a;
       p_bound = (w.0.high, c.lay.ensures.size ∙ w.2.0);
       a_value = held_totals c.args.p c.args.l _ c.both_sums.new.a c.both_sums.new.b
-            c.both_sums.ensures.sums c.both_sums.ensures.sums_2;
+          c.both_sums.ensures.sums c.both_sums.ensures.sums_2;
     }
 
 pub returns-in-Refused : goal.returns-in-Refused

@@ -1,5 +1,4 @@
 -- `cells::change::add_line` meets its contract: a tile is rows of bytes.
-use native.Mathlib.Omega.{arith}
 use Rattle.cells.specs.Change.{tile_added}
 use Rattle.cells.proofs.change.add_line.Goals as goal
 

@@ -1,9 +1,7 @@
 -- `cells::change::add_run` meets its contract. The loop's invariant: the first k bytes are added, and the next goes to `at`.
 use mathlib.Core.Path.{◌≡◌}
-use Prim.Native.Nat.{◌+◌, ◌-◌, ◌*◌, ◌≤◌}
 use native.Mathlib.Omega.{arith}
-use Rattle.code.specs.Held.{held}
-use Rattle.cells.specs.Change.{RunAdded, run_in, run_none, run_more}
+use Rattle.cells.specs.Change.{run_in, run_none, run_more}
 use Rattle.cells.proofs.change.add_run.Goals as goal
 
 pub loop-k-init : goal.loop-k-init

@@ -1,9 +1,8 @@
 -- `cells::change::add_run` meets its contract. The loop's invariant: the first k bytes are added, and the next goes to `at`.
 use mathlib.Core.Path.{◌≡◌}
 use Prim.Native.Nat.{◌+◌, ◌-◌, ◌*◌, ◌≤◌}
-use native.Mathlib.Omega.{arith}
 use Rattle.code.specs.Held.{held}
-use Rattle.cells.specs.Change.{RunAdded, run_in, run_none, run_more}
+use Rattle.cells.specs.Change.{RunAdded}
 use Rattle.cells.proofs.change.add_run.Given as goal
 
 abbrev pub invariant-loop-k : goal.invariant-loop-k

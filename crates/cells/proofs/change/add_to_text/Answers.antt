@@ -1,5 +1,4 @@
 -- `cells::change::add_to_text` meets its contract: a text is rows of bytes.
-use native.Mathlib.Omega.{arith}
 use Rattle.cells.proofs.change.add_to_text.Goals as goal
 
 pub returns : goal.returns

@@ -1,8 +1,7 @@
 -- `cells::text::copy_each` meets its contract. The loop's invariant: the first k bytes are copied.
 use mathlib.Core.Path.{◌≡◌}
-use Prim.Native.Nat.{◌-◌, ◌≤◌}
 use native.Mathlib.Omega.{arith}
-use Rattle.cells.specs.Text.{Copied, copied_none, copied_more}
+use Rattle.cells.specs.Text.{copied_none, copied_more}
 use Rattle.cells.proofs.text.copy_each.Goals as goal
 
 pub loop-k-init : goal.loop-k-init

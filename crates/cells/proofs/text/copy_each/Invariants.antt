@@ -1,8 +1,6 @@
 -- `cells::text::copy_each` meets its contract. The loop's invariant: the first k bytes are copied.
-use mathlib.Core.Path.{◌≡◌}
 use Prim.Native.Nat.{◌-◌, ◌≤◌}
-use native.Mathlib.Omega.{arith}
-use Rattle.cells.specs.Text.{Copied, copied_none, copied_more}
+use Rattle.cells.specs.Text.{Copied}
 use Rattle.cells.proofs.text.copy_each.Given as goal
 
 abbrev pub invariant-loop-k : goal.invariant-loop-k

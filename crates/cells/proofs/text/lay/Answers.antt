@@ -1,8 +1,8 @@
 -- `cells::text::lay` meets its contract. The loop's invariant: the first i rows are copied.
 use mathlib.Core.Path.{◌≡◌}
-use Prim.Native.Nat.{◌-◌, ◌≤◌}
+use Prim.Native.Nat.{◌-◌}
 use native.Mathlib.Omega.{arith}
-use Rattle.cells.specs.Text.{RowsCopied, rows_in, rows_none, rows_more, rows_laid}
+use Rattle.cells.specs.Text.{rows_in, rows_none, rows_more, rows_laid}
 use Rattle.cells.proofs.text.lay.Goals as goal
 
 pub loop-i-init : goal.loop-i-init

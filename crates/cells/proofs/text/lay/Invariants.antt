@@ -1,8 +1,6 @@
 -- `cells::text::lay` meets its contract. The loop's invariant: the first i rows are copied.
-use mathlib.Core.Path.{◌≡◌}
 use Prim.Native.Nat.{◌-◌, ◌≤◌}
-use native.Mathlib.Omega.{arith}
-use Rattle.cells.specs.Text.{RowsCopied, rows_in, rows_none, rows_more, rows_laid}
+use Rattle.cells.specs.Text.{RowsCopied}
 use Rattle.cells.proofs.text.lay.Given as goal
 
 abbrev pub invariant-loop-i : goal.invariant-loop-i

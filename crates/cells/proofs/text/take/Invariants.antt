@@ -1,9 +1,8 @@
 -- `cells::text::take` meets its contract. The loop's invariant: some rows are taken, and `start` and `begin` are where the next one is and goes.
 --
 use Prim.Native.Nat.{◌-◌}
-use native.Mathlib.Omega.{arith}
 use lib.ListN.{length}
-use Rattle.cells.specs.Text.{Taken, taken_none, next_in, taken_more, taken_all, rows_taken}
+use Rattle.cells.specs.Text.{Taken}
 use Rattle.cells.proofs.text.take.Given as goal
 
 abbrev pub invariant-loop-begin : goal.invariant-loop-begin

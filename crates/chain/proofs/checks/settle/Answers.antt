@@ -1,7 +1,6 @@
 -- `chain::checks::settle` meets its contract.
 use mathlib.Core.Path.{refl}
 use native.Mathlib.Omega.{arith}
-use borrow.Author.Rules.{rules}
 use Rattle.code.specs.Held.{held}
 use Rattle.chain.specs.Cases.{columns_close}
 use Rattle.chain.specs.Settled.{both_added}
@@ -13,7 +12,7 @@ solve-requires c =
       slope = c.requires.slope;
       p_bound = (c.requires.p_bound.0, omega (arith, c.requires.slope.high), omega (arith, c.requires.slope.high));
       closes = columns_close c.args.p c.args.l (held c.args.a.now) (held c.args.b.now) c.requires.slope _ _
-              (omega (arith, c.requires.slope.high)) (omega (arith, c.requires.slope.high)) (omega (arith, c.requires.slope.low, c.requires.slope.high)) c.requires.a_value;
+          (omega (arith, c.requires.slope.high)) (omega (arith, c.requires.slope.high)) (omega (arith, c.requires.slope.low, c.requires.slope.high)) c.requires.a_value;
       x_len = (refl, refl);
     }
 

@@ -1,15 +1,8 @@
 -- `chain::filling::agree` meets its contract. The loop's invariant: t and u are k steps from the lines of both slopes through the column's
 -- first cell, and the sums agree along the cells passed.
-use mathlib.Core.Path.{◌≡◌, sym, ap, ◌∙◌}
+use mathlib.Core.Path.{◌≡◌}
 use Prim.Native.Nat.{ℕ, ◌+◌, ◌*◌, ◌%◌, ◌≤◌, ◌<◌, ◌-◌}
-use native.Mathlib.Nat.{mod-lt}
-use native.Mathlib.Omega.{arith}
-use borrow.Author.Count.{below_more}
-use Rattle.code.specs.declared.Line.TheVariants.{Column}
 use Rattle.code.specs.Held.{held}
-use Rattle.walk.specs.Bound.{product}
-use Rattle.walk.specs.Fill.{begins, carried, from_number}
-use Rattle.chain.specs.Agree.{from_first}
 use Rattle.chain.proofs.filling.agree.Given as goal
 
 abbrev pub invariant-loop-k : goal.invariant-loop-k

@@ -2,7 +2,6 @@
 use mathlib.Core.Path.{sym}
 use mathlib.Core.Logic.{inl}
 use native.Mathlib.Omega.{arith}
-use borrow.Author.Rules.{rules}
 use Rattle.chain.specs.Cases.{columns_close}
 use Rattle.chain.proofs.filling.columns.Goals as goal
 
@@ -13,7 +12,7 @@ paired-requires c =
       p_bound = (omega arith, omega arith, omega arith);
       sure = inl tt;
       closes = columns_close c.args.p c.args.l _ _ c.requires.slope c.args.u c.args.v
-                (omega arith) (omega arith) c.if-u-v.false c.requires.p_bound.3;
+          (omega arith) (omega arith) c.if-u-v.false c.requires.p_bound.3;
       x_len = c.requires.x_len;
     }
 

@@ -1,7 +1,6 @@
 -- `chain::filling::crossed` meets its contract.
 use mathlib.Core.Logic.{inr}
 use native.Mathlib.Omega.{arith}
-use borrow.Author.Rules.{rules}
 use Rattle.chain.specs.Cases.{crossed_close, none_solved, several_solved, one_reaches}
 use Rattle.chain.proofs.filling.crossed.Goals as goal
 
@@ -13,7 +12,7 @@ paired-requires c =
       p_bound = (omega arith, omega arith, omega arith);
       sure = inr one.0;
       closes = crossed_close c.args.p c.args.l _ _ c.requires.slope c.args.t c.args.s
-                one.0 (omega arith) (omega arith) c.requires.p_bound.3 one.1;
+          one.0 (omega arith) (omega arith) c.requires.p_bound.3 one.1;
       x_len = c.requires.x_len;
     }
 

@@ -2,8 +2,6 @@
 use mathlib.Core.Logic.{inl}
 use native.Mathlib.Omega.{arith}
 use lib.ListN.{replicate}
-use borrow.Author.Rules.{rules}
-use borrow.Author.Tests.{not-true, not-false}
 use Rattle.code.specs.Says.{says_true, says_false}
 use Rattle.code.specs.OneLine.{Agree}
 use Rattle.code.specs.Held.{held, zeros_held}

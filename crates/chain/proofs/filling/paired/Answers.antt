@@ -1,5 +1,4 @@
 -- `chain::filling::paired` meets its contract.
-use borrow.Author.Rules.{rules}
 use Rattle.chain.specs.Solve.{one}
 use Rattle.chain.proofs.filling.paired.Goals as goal
 

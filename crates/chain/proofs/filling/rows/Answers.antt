@@ -1,6 +1,5 @@
 -- `chain::filling::rows` meets its contract: rows are columns of the turned tile.
 use native.Mathlib.Omega.{arith}
-use borrow.Author.Rules.{rules}
 use Rattle.code.specs.Slope.{inverse_slope}
 use Rattle.code.specs.Held.{held}
 use Rattle.chain.specs.Cases.{held_turned, solved_rows}
@@ -11,12 +10,12 @@ columns-requires c =
     record {
       slope = inverse_slope _ _ _ c.requires.slope c.inverse.ensures.1 c.inverse.ensures.0;
       p_bound = (
-          omega arith,
-          omega arith,
-          omega arith,
-          held_turned c.args.p c.args.l _ (held c.args.b.now) (held c.along.new.out)
-              c.requires.slope c.along.ensures.stepping c.requires.p_bound.3,
-        );
+        omega arith,
+        omega arith,
+        omega arith,
+        held_turned c.args.p c.args.l _ (held c.args.b.now) (held c.along.new.out)
+            c.requires.slope c.along.ensures.stepping c.requires.p_bound.3,
+      );
       x_len = (c.along.ensures.out_len, c.requires.x_len.1);
     }
 

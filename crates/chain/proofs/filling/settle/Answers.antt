@@ -1,6 +1,5 @@
 -- `chain::filling::settle` meets its contract, case by case.
 use native.Mathlib.Omega.{arith}
-use borrow.Author.Rules.{rules}
 use Rattle.code.specs.Held.{held}
 use Rattle.chain.specs.Cases.{solved_either}
 use Rattle.chain.proofs.filling.settle.Goals as goal

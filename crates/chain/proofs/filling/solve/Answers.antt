@@ -20,12 +20,12 @@ settle-requires c =
       slope = c.requires.slope;
       takes = c.requires.takes;
       p_bound = (
-            c.requires.p_bound.0,
-            c.requires.p_bound.2,
-            c.requires.p_bound.3,
-            held_totals a.p a.l (cell a.p a.tile.now) c.both_sums.new.a c.both_sums.new.b
-                c.both_sums.ensures.sums c.both_sums.ensures.sums_2,
-          );
+        c.requires.p_bound.0,
+        c.requires.p_bound.2,
+        c.requires.p_bound.3,
+        held_totals a.p a.l (cell a.p a.tile.now) c.both_sums.new.a c.both_sums.new.b
+            c.both_sums.ensures.sums c.both_sums.ensures.sums_2,
+      );
       x_len = c.requires.x_len;
     }
 

@@ -1,9 +1,7 @@
 -- The cycle of calls {to_column, to_line}. What each fills, and that it touches nothing else, is one law of `Hand`.
-use Rattle.std.proofs.Common.{refl, ℕ, ◌+◌, ◌*◌, ◌<◌, arith}
+use Rattle.std.proofs.Common.{refl, arith}
 use Rattle.std.proofs.Math.ListN.{length-set}
-use native.Mathlib.Nat.{mod-lt}
-use Rattle.walk.specs.Bound.{product}
-use Rattle.chain.specs.Hand.{no_line, no_column, line_turn, column_turn}
+use Rattle.chain.specs.Hand.{line_turn, column_turn}
 use Rattle.chain.proofs.pair.+to_column_to_line.Goals as goal
 
 pub to_column-to_line-requires : goal.to_column-to_line-requires

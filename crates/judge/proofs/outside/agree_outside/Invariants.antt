@@ -1,15 +1,10 @@
 -- `judge::outside::agree_outside` meets its contract. The loop's invariant: each column passed has no mark, or is one of the two lines.
 use mathlib.Core.Path.{◌≡◌}
-use mathlib.Core.Logic.{◌⊎◌, inl, inr, ⊎_elim}
+use mathlib.Core.Logic.{◌⊎◌}
 use Prim.Native.Nat.{ℕ, ◌-◌, ◌≤◌, ◌<◌}
-use native.Mathlib.Omega.{arith}
-use borrow.Author.Count.{below_more}
-use borrow.Author.Rules.{rules}
-use borrow.Author.Tests.{not-true, not-false}
 use Rattle.code.specs.Held.{held}
-use Rattle.code.specs.Says.{says_true, says_false}
 use Rattle.code.specs.declared.Line.TheVariants.{Column}
-use Rattle.judge.specs.Outside.{OneOf, marks_agree, mark_differs}
+use Rattle.judge.specs.Outside.{OneOf}
 use Rattle.judge.proofs.outside.agree_outside.Given as goal
 
 abbrev pub invariant-loop-j : goal.invariant-loop-j

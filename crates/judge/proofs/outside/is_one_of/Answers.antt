@@ -1,7 +1,6 @@
 -- `judge::outside::is_one_of` meets its contract.
 use mathlib.Core.Path.{◌≡◌}
 use mathlib.Core.Logic.{inl}
-use borrow.Author.Rules.{rules}
 use Rattle.code.specs.Says.{says_true, says_false, says_other}
 use Rattle.judge.proofs.outside.is_one_of.Goals as goal
 

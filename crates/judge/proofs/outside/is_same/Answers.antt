@@ -2,7 +2,6 @@
 use mathlib.Core.Path.{◌≡◌, ap}
 use Prim.Native.Nat.{ℕ}
 use native.Mathlib.Omega.{arith}
-use borrow.Author.Rules.{rules}
 use Rattle.code.specs.Says.{says_equal}
 use Rattle.code.specs.declared.Line.TheVariants.{Row, Column}
 use Rattle.judge.proofs.outside.is_same.Goals as goal

@@ -1,13 +1,10 @@
 -- `judge::outside::mark_columns` meets its contract. The loop's invariant: the rows before row i are compared.
 use mathlib.Core.Path.{◌≡◌}
-use mathlib.Core.Logic.{⊎_elim}
-use Prim.Native.Nat.{◌-◌, ◌≤◌}
+use Prim.Native.Nat.{◌-◌}
 use native.Mathlib.Omega.{arith}
-use borrow.Author.Rules.{rules}
-use borrow.Author.Tests.{not-true, not-false}
 use Rattle.code.specs.Place.{row_lt}
 use Rattle.code.specs.Says.{says_true, says_false}
-use Rattle.judge.specs.Outside.{RowsMarked, rows_none, rows_passed, rows_more}
+use Rattle.judge.specs.Outside.{rows_none, rows_passed, rows_more}
 use Rattle.judge.proofs.outside.mark_columns.Goals as goal
 use Rattle.judge.proofs.outside.mark_columns.Goals.{then-not-is_one_of, else-not-is_one_of}
 
@@ -27,14 +24,13 @@ mark_row-requires c =
     (omega arith, omega arith, omega arith, omega arith)
 
 pub loop-i-preserved : goal.loop-i-preserved
-loop-i-preserved c =
-    (
-      omega arith,
-      elim c.if-not-is_one_of.branch [
-        then-not-is_one_of w ↦ rw w.marks-is (rows_more (omega arith) (says_false c.is_one_of.ensures w.if-not-is_one_of.true) w.mark_row.ensures c.loop-i.invariant.1)
-        | else-not-is_one_of w ↦ rw w.marks-is (rows_passed (says_true c.is_one_of.ensures w.if-not-is_one_of.false) c.loop-i.invariant.1)
-      ],
-    )
+loop-i-preserved c = (
+  omega arith,
+  elim c.if-not-is_one_of.branch [
+    | then-not-is_one_of w ↦ rw w.marks-is (rows_more (omega arith) (says_false c.is_one_of.ensures w.if-not-is_one_of.true) w.mark_row.ensures c.loop-i.invariant.1)
+    | else-not-is_one_of w ↦ rw w.marks-is (rows_passed (says_true c.is_one_of.ensures w.if-not-is_one_of.false) c.loop-i.invariant.1)
+  ],
+)
 
 pub returns : goal.returns
 returns c =

@@ -1,9 +1,8 @@
 -- `judge::outside::mark_row` meets its contract. The loop's invariant: the first k bytes are compared.
 use mathlib.Core.Path.{◌≡◌}
-use mathlib.Core.Logic.{inl, inr, ⊎_elim}
-use Prim.Native.Nat.{◌-◌, ◌≤◌}
+use mathlib.Core.Logic.{inl, inr}
 use native.Mathlib.Omega.{arith}
-use Rattle.judge.specs.Outside.{RowMarked, row_none, row_more}
+use Rattle.judge.specs.Outside.{row_none, row_more}
 use Rattle.judge.proofs.outside.mark_row.Goals as goal
 use Rattle.judge.proofs.outside.mark_row.Goals.{then-scan-start, else-scan-start}
 

@@ -1,9 +1,6 @@
 -- `judge::outside::mark_row` meets its contract. The loop's invariant: the first k bytes are compared.
-use mathlib.Core.Path.{◌≡◌}
-use mathlib.Core.Logic.{inl, inr, ⊎_elim}
 use Prim.Native.Nat.{◌-◌, ◌≤◌}
-use native.Mathlib.Omega.{arith}
-use Rattle.judge.specs.Outside.{RowMarked, row_none, row_more}
+use Rattle.judge.specs.Outside.{RowMarked}
 use Rattle.judge.proofs.outside.mark_row.Given as goal
 
 abbrev pub invariant-loop-k : goal.invariant-loop-k

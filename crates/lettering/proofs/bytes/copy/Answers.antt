@@ -1,9 +1,8 @@
 -- `lettering::bytes::copy` meets its contract. The loop's invariant: the first k bytes are copied, and the length of `to` stays.
 use mathlib.Core.Path.{◌≡◌, refl}
-use Prim.Native.Nat.{◌-◌, ◌≤◌}
 use native.Mathlib.Omega.{arith}
 use lib.ListN.{length, length-set}
-use lib.Seq.{paste, paste-zero}
+use lib.Seq.{paste-zero}
 use Rattle.lettering.specs.Lay.{laid_more}
 use Rattle.lettering.proofs.bytes.copy.Goals as goal
 

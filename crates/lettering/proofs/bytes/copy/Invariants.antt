@@ -1,10 +1,8 @@
 -- `lettering::bytes::copy` meets its contract. The loop's invariant: the first k bytes are copied, and the length of `to` stays.
-use mathlib.Core.Path.{◌≡◌, refl}
+use mathlib.Core.Path.{◌≡◌}
 use Prim.Native.Nat.{◌-◌, ◌≤◌}
-use native.Mathlib.Omega.{arith}
-use lib.ListN.{length, length-set}
-use lib.Seq.{paste, paste-zero}
-use Rattle.lettering.specs.Lay.{laid_more}
+use lib.ListN.{length}
+use lib.Seq.{paste}
 use Rattle.lettering.proofs.bytes.copy.Given as goal
 
 abbrev pub invariant-loop-k : goal.invariant-loop-k

@@ -1,6 +1,4 @@
 -- `lettering::line::end_line` meets its contract.
-use mathlib.Core.Path.{refl}
-use native.Mathlib.Omega.{arith}
 use Rattle.lettering.specs.Line.{end_line}
 use Rattle.lettering.proofs.line.end_line.Goals as goal
 

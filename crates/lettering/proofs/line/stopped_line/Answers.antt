@@ -1,6 +1,4 @@
 -- `lettering::line::stopped_line` meets its contract.
-use mathlib.Core.Path.{refl}
-use native.Mathlib.Omega.{arith}
 use Rattle.lettering.specs.Line.{stopped_line}
 use Rattle.lettering.proofs.line.stopped_line.Goals as goal
 

@@ -1,5 +1,4 @@
 -- `lettering::line::tile_line` meets its contract.
-use borrow.Author.Rules.{rules}
 use Rattle.lettering.specs.Line.{tile_line}
 use Rattle.lettering.proofs.line.tile_line.Goals as goal
 

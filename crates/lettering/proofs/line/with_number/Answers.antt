@@ -1,6 +1,5 @@
 -- `lettering::line::with_number` meets its contract: `io::decimal` makes the digits of SPEC 8.1.
 use native.Mathlib.Omega.{arith}
-use borrow.Author.Rules.{rules}
 use Rattle.lettering.specs.Decimal.{spelled}
 use Rattle.lettering.proofs.line.with_number.Goals as goal
 

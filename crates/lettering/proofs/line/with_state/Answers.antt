@@ -1,5 +1,4 @@
 -- `lettering::line::with_state` meets its contract: each answer by its word, and by its numbers if it has some.
-use borrow.Author.Rules.{rules}
 use lib.ListN.{take}
 use Rattle.lettering.specs.Line.{ascii, state_text}
 use Rattle.lettering.specs.Lay.{word_laid, number_laid, two_laid}

@@ -3,7 +3,6 @@ use Prim.Native.Nat.{◌*◌, ◌-◌}
 use native.Mathlib.Nat.{mul-le-mul, div-le_self}
 use native.Mathlib.Omega.{arith}
 use borrow.Author.Tests.{lt-ltb, le-ltb}
-use borrow.Author.Rules.{rules}
 use Rattle.picture.specs.Picture.{along}
 use Rattle.picture.proofs.drawing.along.Goals as goal
 

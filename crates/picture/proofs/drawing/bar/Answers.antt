@@ -1,5 +1,4 @@
 -- `picture::drawing::bar` meets its contract.
-use borrow.Author.Rules.{rules}
 use Rattle.picture.proofs.drawing.bar.Goals as goal
 
 pub returns : goal.returns

@@ -1,5 +1,4 @@
 -- `picture::drawing::dot` meets its contract.
-use borrow.Author.Rules.{rules}
 use Rattle.picture.specs.Picture.{shape}
 use Rattle.picture.proofs.drawing.dot.Goals as goal
 

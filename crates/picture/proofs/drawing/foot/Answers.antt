@@ -1,5 +1,4 @@
 -- `picture::drawing::foot` meets its contract.
-use borrow.Author.Rules.{rules}
 use Rattle.picture.specs.Picture.{foot}
 use Rattle.picture.proofs.drawing.foot.Goals as goal
 

@@ -1,5 +1,4 @@
 -- `picture::drawing::head` meets its contract.
-use borrow.Author.Rules.{rules}
 use Rattle.picture.specs.Picture.{head}
 use Rattle.picture.proofs.drawing.head.Goals as goal
 

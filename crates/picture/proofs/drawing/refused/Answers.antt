@@ -1,7 +1,6 @@
 -- `picture::drawing::refused` meets its contract.
 use native.Mathlib.Omega.{arith}
 use borrow.Author.Tests.{eq-eqb, ne_eqb}
-use borrow.Author.Rules.{rules}
 use Rattle.picture.specs.Picture.{refused_shape}
 use Rattle.picture.proofs.drawing.refused.Goals as goal
 

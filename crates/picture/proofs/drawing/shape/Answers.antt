@@ -1,6 +1,5 @@
 -- `picture::drawing::shape` meets its contract.
 use native.Mathlib.Omega.{arith}
-use borrow.Author.Rules.{rules}
 use Rattle.picture.specs.Picture.{shape}
 use Rattle.picture.proofs.drawing.shape.Goals as goal
 

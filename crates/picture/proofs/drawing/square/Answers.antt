@@ -1,6 +1,5 @@
 -- `picture::drawing::square` meets its contract.
 use native.Mathlib.Omega.{arith}
-use borrow.Author.Rules.{rules}
 use Rattle.page.specs.Then.{◌then◌}
 use Rattle.picture.specs.Picture.{square}
 use Rattle.picture.proofs.drawing.square.Goals as goal

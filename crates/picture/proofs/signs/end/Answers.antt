@@ -2,7 +2,6 @@
 use Prim.Native.Nat.{◌%◌}
 use native.Mathlib.Omega.{arith}
 use borrow.Author.Tests.{eq-eqb, ne_eqb}
-use borrow.Author.Rules.{rules}
 use Rattle.page.specs.Then.{puts_nothing}
 use Rattle.picture.specs.Picture.{last_row_end}
 use Rattle.picture.proofs.signs.end.Goals as goal

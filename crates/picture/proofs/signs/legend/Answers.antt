@@ -1,6 +1,5 @@
 -- `picture::signs::legend` meets its contract.
 use native.Mathlib.Omega.{arith}
-use borrow.Author.Rules.{rules}
 use Rattle.picture.specs.Picture.{sign_legend}
 use Rattle.picture.proofs.signs.legend.Goals as goal
 

@@ -1,6 +1,5 @@
 -- `picture::signs::sign` meets its contract.
 use native.Mathlib.Omega.{arith}
-use borrow.Author.Rules.{rules}
 use Rattle.page.specs.Then.{◌then◌}
 use Rattle.picture.specs.Picture.{signed}
 use Rattle.picture.proofs.signs.sign.Goals as goal

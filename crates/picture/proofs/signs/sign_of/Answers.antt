@@ -1,6 +1,5 @@
 -- `picture::signs::sign_of` meets its contract.
 use borrow.Author.Tests.{eq-eqb, ne_eqb}
-use borrow.Author.Rules.{rules}
 use Rattle.picture.specs.Picture.{sign}
 use Rattle.picture.proofs.signs.sign_of.Goals as goal
 

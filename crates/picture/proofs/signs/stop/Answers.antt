@@ -1,6 +1,5 @@
 -- `picture::signs::stop` meets its contract.
 use native.Mathlib.Omega.{arith}
-use borrow.Author.Rules.{rules}
 use Rattle.page.specs.Then.{◌then◌}
 use Rattle.picture.specs.Picture.{stop_signed}
 use Rattle.picture.proofs.signs.stop.Goals as goal

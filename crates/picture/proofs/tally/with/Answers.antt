@@ -1,7 +1,6 @@
 -- `picture::tally::with` meets its contract.
 use native.Mathlib.Nat.{add-zero}
 use borrow.Author.Tests.{eq-eqb, ne_eqb}
-use borrow.Author.Rules.{rules}
 use Rattle.picture.specs.Tally.{counted}
 use Rattle.picture.proofs.tally.with.Goals as goal
 

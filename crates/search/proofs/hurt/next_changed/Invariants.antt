@@ -1,9 +1,7 @@
 -- `search::hurt::next_changed` meets its contract. The loop's invariant: at the places passed the change is zero.
 use mathlib.Core.Path.{◌≡◌}
 use Prim.Native.Nat.{ℕ, ◌≤◌, ◌<◌, ◌-◌}
-use native.Mathlib.Omega.{arith}
 use Rattle.code.specs.Held.{held}
-use Rattle.search.specs.Line.{one_further}
 use Rattle.search.proofs.hurt.next_changed.Given as goal
 
 abbrev pub invariant-loop-k : goal.invariant-loop-k

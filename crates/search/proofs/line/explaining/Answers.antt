@@ -2,7 +2,7 @@
 -- n begins. The inner loop's: t is k lines after the first, u is the place that belongs to it, and the sums agree at the lines passed. Assumes
 -- nothing.
 use mathlib.Core.Path.{◌≡◌, refl, sym, ap, ◌∙◌}
-use Prim.Native.Nat.{ℕ, ◌+◌, ◌-◌, ◌*◌, ◌%◌, ◌≤◌, ◌<◌}
+use Prim.Native.Nat.{◌+◌, ◌-◌, ◌*◌, ◌%◌}
 use native.Mathlib.Nat.{mod-lt}
 use native.Mathlib.Omega.{arith}
 use borrow.Author.Count.{below_more}
@@ -11,7 +11,7 @@ use Rattle.code.specs.Tile.{cell, sum}
 use Rattle.code.specs.Held.{held}
 use Rattle.walk.specs.Bound.{product}
 use Rattle.walk.specs.Fill.{begins, carried}
-use Rattle.search.specs.Line.{place_of, Fits, FitsSoFar, fits_more, not_fits, fits_all, at_first, at_second, place_next}
+use Rattle.search.specs.Line.{Fits, fits_more, not_fits, fits_all, at_first, at_second, place_next}
 use Rattle.search.proofs.line.explaining.Goals as goal
 
 pub line_sum-here-requires : goal.line_sum-here-requires

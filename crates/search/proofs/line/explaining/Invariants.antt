@@ -1,17 +1,11 @@
 -- `search::line::explaining` meets its contract. The outer loop's invariant: along no line passed do the sums agree, and `place` is where line
 -- n begins. The inner loop's: t is k lines after the first, u is the place that belongs to it, and the sums agree at the lines passed. Assumes
 -- nothing.
-use mathlib.Core.Path.{◌≡◌, refl, sym, ap, ◌∙◌}
+use mathlib.Core.Path.{◌≡◌}
 use Prim.Native.Nat.{ℕ, ◌+◌, ◌-◌, ◌*◌, ◌%◌, ◌≤◌, ◌<◌}
-use native.Mathlib.Nat.{mod-lt}
-use native.Mathlib.Omega.{arith}
-use borrow.Author.Count.{below_more}
-use Rattle.residue.specs.Remainder.{same}
 use Rattle.code.specs.Tile.{cell, sum}
 use Rattle.code.specs.Held.{held}
-use Rattle.walk.specs.Bound.{product}
-use Rattle.walk.specs.Fill.{begins, carried}
-use Rattle.search.specs.Line.{place_of, Fits, FitsSoFar, fits_more, not_fits, fits_all, at_first, at_second, place_next}
+use Rattle.search.specs.Line.{place_of, Fits, FitsSoFar}
 use Rattle.search.proofs.line.explaining.Given as goal
 
 abbrev pub invariant-loop-k : goal.invariant-loop-k

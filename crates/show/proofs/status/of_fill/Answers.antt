@@ -1,7 +1,6 @@
 -- `show::status::of_fill` meets its contract.
 use mathlib.Core.Path.{sym, ◌∙◌}
 use Rattle.show.specs.Status.{no_line, no_filling}
-use borrow.Author.Rules.{rules}
 use Rattle.show.proofs.status.of_fill.Goals as goal
 
 pub returns-then-number-eq4 : goal.returns-then-number-eq4

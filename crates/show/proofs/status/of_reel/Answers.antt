@@ -1,6 +1,5 @@
 -- `show::status::of_reel` meets its contract.
 use native.Mathlib.Omega.{arith}
-use borrow.Author.Tests.{not-true, not-false}
 use Rattle.show.specs.Status.{well, hurt, stopped}
 use Rattle.show.proofs.status.of_reel.Goals as goal
 

@@ -1,9 +1,9 @@
 -- `walk::along::along` meets its contract. The loop's invariant: t is k steps of `weight` after the start, and the sums at the places passed
 -- are stored.
-use mathlib.Core.Path.{◌≡◌, ap}
-use Prim.Native.Nat.{ℕ, ◌+◌, ◌*◌, ◌%◌, ◌≤◌, ◌<◌, ◌-◌}
+use mathlib.Core.Path.{ap}
+use Prim.Native.Nat.{◌+◌, ◌*◌, ◌%◌}
 use native.Mathlib.Omega.{arith}
-use lib.ListN.{length, length-set}
+use lib.ListN.{length-set}
 use Rattle.code.specs.Held.{held}
 use Rattle.walk.specs.Fill.{one_more, carried, begins}
 use Rattle.walk.proofs.along.along.Goals as goal

@@ -1,11 +1,9 @@
 -- `walk::along::along` meets its contract. The loop's invariant: t is k steps of `weight` after the start, and the sums at the places passed
 -- are stored.
-use mathlib.Core.Path.{◌≡◌, ap}
+use mathlib.Core.Path.{◌≡◌}
 use Prim.Native.Nat.{ℕ, ◌+◌, ◌*◌, ◌%◌, ◌≤◌, ◌<◌, ◌-◌}
-use native.Mathlib.Omega.{arith}
-use lib.ListN.{length, length-set}
+use lib.ListN.{length}
 use Rattle.code.specs.Held.{held}
-use Rattle.walk.specs.Fill.{one_more, carried, begins}
 use Rattle.walk.proofs.along.along.Given as goal
 
 abbrev pub invariant-loop-k : goal.invariant-loop-k

@@ -1,9 +1,9 @@
 -- `walk::along::take_off_common` meets its contract. The loop's invariant: the common byte is taken off at the places passed, and the
 -- others are as they were.
-use mathlib.Core.Path.{◌≡◌, refl, ap, ◌∙◌}
-use Prim.Native.Nat.{ℕ, ◌≤◌, ◌<◌, ◌-◌}
+use mathlib.Core.Path.{refl, ap, ◌∙◌}
+use Prim.Native.Nat.{ℕ, ◌-◌}
 use native.Mathlib.Omega.{arith}
-use lib.ListN.{length, length-set}
+use lib.ListN.{length-set}
 use lib.Seq.{get_or-set_other}
 use Rattle.xor.specs.Xor.{◌⊕◌, ⊕_is}
 use Rattle.code.specs.Held.{held}

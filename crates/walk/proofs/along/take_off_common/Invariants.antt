@@ -1,13 +1,10 @@
 -- `walk::along::take_off_common` meets its contract. The loop's invariant: the common byte is taken off at the places passed, and the
 -- others are as they were.
-use mathlib.Core.Path.{◌≡◌, refl, ap, ◌∙◌}
+use mathlib.Core.Path.{◌≡◌}
 use Prim.Native.Nat.{ℕ, ◌≤◌, ◌<◌, ◌-◌}
-use native.Mathlib.Omega.{arith}
-use lib.ListN.{length, length-set}
-use lib.Seq.{get_or-set_other}
-use Rattle.xor.specs.Xor.{◌⊕◌, ⊕_is}
+use lib.ListN.{length}
+use Rattle.xor.specs.Xor.{◌⊕◌}
 use Rattle.code.specs.Held.{held}
-use Rattle.walk.specs.Fill.{one_more}
 use Rattle.walk.proofs.along.take_off_common.Given as goal
 
 abbrev pub invariant-loop-k : goal.invariant-loop-k

@@ -1,8 +1,7 @@
 -- `walk::sums::add_bytes` meets its contract. The loop's invariant: the first k bytes are added.
 use mathlib.Core.Path.{◌≡◌}
-use Prim.Native.Nat.{◌-◌, ◌≤◌}
 use native.Mathlib.Omega.{arith}
-use Rattle.walk.specs.Walk.{BytesAdded, bytes_none, bytes_more}
+use Rattle.walk.specs.Walk.{bytes_none, bytes_more}
 use Rattle.walk.proofs.sums.add_bytes.Goals as goal
 
 pub loop-k-init : goal.loop-k-init

@@ -1,8 +1,6 @@
 -- `walk::sums::add_bytes` meets its contract. The loop's invariant: the first k bytes are added.
-use mathlib.Core.Path.{◌≡◌}
 use Prim.Native.Nat.{◌-◌, ◌≤◌}
-use native.Mathlib.Omega.{arith}
-use Rattle.walk.specs.Walk.{BytesAdded, bytes_none, bytes_more}
+use Rattle.walk.specs.Walk.{BytesAdded}
 use Rattle.walk.proofs.sums.add_bytes.Given as goal
 
 abbrev pub invariant-loop-k : goal.invariant-loop-k

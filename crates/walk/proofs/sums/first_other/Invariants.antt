@@ -1,8 +1,6 @@
 -- `walk::sums::first_other` meets its contract. The loop's invariant: the sums passed are the byte.
 use mathlib.Core.Path.{◌≡◌}
 use Prim.Native.Nat.{ℕ, ◌-◌, ◌≤◌, ◌<◌}
-use native.Mathlib.Omega.{arith}
-use borrow.Author.Count.{below_more}
 use Rattle.code.specs.Held.{held}
 use Rattle.walk.proofs.sums.first_other.Given as goal
 

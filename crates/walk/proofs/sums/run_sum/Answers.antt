@@ -1,10 +1,10 @@
 -- `walk::sums::run_sum` meets its contract. The loop's invariant: the first k bytes are summed, and the next is at `at`.
 use mathlib.Core.Path.{◌∙◌}
-use Prim.Native.Nat.{◌+◌, ◌-◌, ◌≤◌}
+use Prim.Native.Nat.{◌+◌, ◌≤◌}
 use native.Mathlib.Nat.{mul-le-mul_left}
 use native.Mathlib.Omega.{arith}
 use Rattle.xor.specs.Sum.{count}
-use Rattle.walk.specs.Line.{RunSummed, run_none, run_more}
+use Rattle.walk.specs.Line.{run_none, run_more}
 use Rattle.walk.proofs.sums.run_sum.Goals as goal
 
 pub loop-k-init : goal.loop-k-init

@@ -1,10 +1,6 @@
 -- `walk::sums::run_sum` meets its contract. The loop's invariant: the first k bytes are summed, and the next is at `at`.
-use mathlib.Core.Path.{◌∙◌}
-use Prim.Native.Nat.{◌+◌, ◌-◌, ◌≤◌}
-use native.Mathlib.Nat.{mul-le-mul_left}
-use native.Mathlib.Omega.{arith}
-use Rattle.xor.specs.Sum.{count}
-use Rattle.walk.specs.Line.{RunSummed, run_none, run_more}
+use Prim.Native.Nat.{◌-◌, ◌≤◌}
+use Rattle.walk.specs.Line.{RunSummed}
 use Rattle.walk.proofs.sums.run_sum.Given as goal
 
 abbrev pub invariant-loop-k : goal.invariant-loop-k

@@ -1,10 +1,10 @@
 -- `walk::sums::turned_sums` meets its contract. The loop's invariant: the rows before row i are added to the sums, and `first` is the line of
 -- the next row's first cell.
 use mathlib.Core.Path.{◌≡◌}
-use Prim.Native.Nat.{◌-◌, ◌≤◌}
+use Prim.Native.Nat.{◌-◌}
 use native.Mathlib.Omega.{arith}
 use Rattle.code.specs.Place.{row_lt}
-use Rattle.walk.specs.Walk.{RowsAdded, rows_none, rows_more, rows_all}
+use Rattle.walk.specs.Walk.{rows_none, rows_more, rows_all}
 use Rattle.walk.proofs.sums.turned_sums.Goals as goal
 
 pub loop-i-init : goal.loop-i-init

@@ -1,10 +1,7 @@
 -- `walk::sums::turned_sums` meets its contract. The loop's invariant: the rows before row i are added to the sums, and `first` is the line of
 -- the next row's first cell.
-use mathlib.Core.Path.{◌≡◌}
 use Prim.Native.Nat.{◌-◌, ◌≤◌}
-use native.Mathlib.Omega.{arith}
-use Rattle.code.specs.Place.{row_lt}
-use Rattle.walk.specs.Walk.{RowsAdded, rows_none, rows_more, rows_all}
+use Rattle.walk.specs.Walk.{RowsAdded}
 use Rattle.walk.proofs.sums.turned_sums.Given as goal
 
 abbrev pub invariant-loop-i : goal.invariant-loop-i

@@ -1,12 +1,8 @@
 -- `walk::turn::inverse` meets its contract. The loop's invariant: t is l m modulo p, and no inverse is below m. As there is an inverse, the
 -- loop ends.
-use mathlib.Core.Path.{◌≡◌, sym, ◌∙◌}
+use mathlib.Core.Path.{◌≡◌}
 use Prim.Native.Nat.{◌+◌, ◌*◌, ◌%◌, ◌<◌, ◌-◌}
-use native.Mathlib.Nat.{mod-eq_of_lt}
-use native.Mathlib.Omega.{arith}
-use Rattle.residue.specs.Remainder.{same}
-use Rattle.walk.specs.Fill.{carried}
-use Rattle.walk.specs.Inverse.{NoneBelow, none_yet, still_below, past}
+use Rattle.walk.specs.Inverse.{NoneBelow}
 use Rattle.walk.proofs.turn.inverse.Given as goal
 
 abbrev pub invariant-loop-t : goal.invariant-loop-t

@@ -4,7 +4,6 @@ use native.Mathlib.Omega.{arith}
 use Rattle.reel.specs.Told.{tile_taken, tile_within}
 use Rattle.reel.proofs.Other.{no_tile as none_there}
 use Rattle.window.specs.Treat.{there, no_tile}
-use borrow.Author.Rules.{rules}
 use Rattle.window.proofs.one.read.Goals as goal
 
 pub returns-in_default : goal.returns-in_default

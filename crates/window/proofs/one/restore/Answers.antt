@@ -2,7 +2,6 @@
 use Rattle.reel.proofs.Other.{no_tile as none_there}
 use Rattle.window.specs.Treat.{no_tile}
 use Rattle.window.specs.Going.{within, restores_at}
-use borrow.Author.Rules.{rules}
 use Rattle.window.proofs.one.restore.Goals as goal
 
 pub returns-in_default : goal.returns-in_default

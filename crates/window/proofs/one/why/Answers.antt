@@ -1,6 +1,5 @@
 -- `window::one::why` meets its contract.
 use mathlib.Core.Path.{refl}
-use borrow.Author.Rules.{rules}
 use Rattle.window.proofs.one.why.Goals as goal
 
 pub returns-in-Refused : goal.returns-in-Refused
