@@ -107,7 +107,7 @@ $(ARCHIVE): $(SOURCES) | kit
 
 $(PROGRAM): $(SOURCES) | kit
 	@tools/prove command
-	@mkdir -p $(@D) && cp crates/command/out/command $@
+	@tools/link-command crates/command/out/command.o $@
 
 $(SHARED): $(ARCHIVE) packaging/exports
 	@tools/share $(ARCHIVE) $@ $(SONAME)

@@ -1,7 +1,6 @@
 // The words behind the command: how many of them are plain, which options are said, and each plain word by its number.
-ghost use Rattle.std.specs.Prelude.{IfSome};
 ghost use Rattle.io.specs.Counts.{IsPrefixLen};
-ghost use Rattle.std.specs.Prelude.{◌≡◌, pos};
+ghost use Rattle.std.specs.Prelude.{◌≡◌, pos, IfSome};
 ghost use Rattle.files.specs.Exit.{Exit};
 
 use crate::say;

@@ -1,5 +1,5 @@
 // What the command reads and writes: its words, its messages, reels by windows, and the new reel that is made beside. Of the system nothing
-// is known but what the kit's `os` and `libc` say.
+// is known but what the kit's std says.
 #![tactic(auto)]
 
 pub mod asked;

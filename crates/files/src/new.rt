@@ -211,6 +211,7 @@ pub fn keep(rt: &HostRuntime, file: File, part: &[u8], new: &[u8], force: bool, 
     status
 }
 
+// Closes a file, as each is closed where it is let go.
 fn close(_file: File) {}
 
 // Takes away what was written so far.
