@@ -20,6 +20,7 @@ const NONE: usize = 0xFFFF;
 const COLUMNS: usize = 0x8000;
 
 // The line that a number names.
+#[tactic(auto, using(crate::specs::Back::line_row, crate::specs::Back::line_column))]
 pub fn line(n: usize) -> Line
     ensures { result ≡ line_of n }
 {
