@@ -105,9 +105,9 @@ $(ARCHIVE): $(SOURCES) | kit
 	@tools/prove counterfrost
 	@mkdir -p $(@D) && cp crates/counterfrost/out/libcounterfrost.a $@
 
-$(PROGRAM): $(SOURCES) | kit
+$(PROGRAM): $(SOURCES) tools/link-command | kit
 	@tools/prove command
-	@mkdir -p $(@D) && cp crates/command/out/command $@
+	@tools/link-command crates/command/out/command.o $@
 
 $(SHARED): $(ARCHIVE) packaging/exports
 	@tools/share $(ARCHIVE) $@ $(SONAME)
