@@ -105,7 +105,7 @@ $(ARCHIVE): $(SOURCES) | kit
 	@tools/prove counterfrost
 	@mkdir -p $(@D) && cp crates/counterfrost/out/libcounterfrost.a $@
 
-$(PROGRAM): $(SOURCES) | kit
+$(PROGRAM): $(SOURCES) tools/link-command | kit
 	@tools/prove command
 	@tools/link-command crates/command/out/command.o $@
 
