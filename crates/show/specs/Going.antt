@@ -13,7 +13,7 @@ use Rattle.picture.specs.Laws.{below_counted}
 use Rattle.picture.specs.Tally.{counted, Below}
 use Rattle.picture.specs.declared.Form.{Form}
 use Rattle.picture.specs.declared.tally.Tally.{Tally}
-use Rattle.window.specs.Treat.{Restored·In}
+use Rattle.window.specs.Treat.{RestoredIn}
 use Rattle.show.specs.Count.{below_more}
 use Rattle.show.specs.Show.{Near, shown_of, Walks, goes_on, PastTold, AlongTold}
 use Rattle.show.specs.declared.Ending.{Ending}
@@ -64,7 +64,7 @@ module _ {form : Form} {last : Bool} {offset : ℕ} {window₀ : List ℕ} {k₀
 
 -- a tile was restored, shown and counted
 pub past_told : {form : Form} {offset : ℕ} {window : List ℕ} {k : Walk} {t : Tile} {page after page' : List ℕ} (place used : ℕ) (tally : Tally) {said : Said}
-    → Restored·In window t said after → Puts page k.used (shown_of form offset k t said) used page' → used ≤ k.used + 512
+    → RestoredIn window t said after → Puts page k.used (shown_of form offset k t said) used page' → used ≤ k.used + 512
     → place ≡ t.at + tile_length t.p → tally ≡ counted k.tally said
     → PastTold form offset window k t page (record { place = place; tally = tally; used = used }) after page'
 past_told place used tally {said} restored shown fits there count = record {

@@ -19,7 +19,7 @@ use Rattle.listing.specs.Whole.{Lists}
 use Rattle.picture.specs.Picture.{tile_shown}
 use Rattle.picture.specs.declared.Form.TheVariants.{Lines}
 use Rattle.window.specs.Window.{Shows}
-use Rattle.window.specs.Treat.{Restored·In}
+use Rattle.window.specs.Treat.{RestoredIn}
 use Rattle.window.specs.Law.{settled_there, bytes_there, There, LastIs, looked_there}
 use Rattle.window.specs.Untouched.{behind_change, same_length}
 use Rattle.window.specs.declared.Step.{Step}
@@ -34,7 +34,7 @@ use Rattle.show.specs.declared.Walked.{Walked}
 -- ---- one tile
 
 module _ {reel : List ℕ} {offset : ℕ} {window : List ℕ} {at : ℕ} (shows : Shows reel offset window at) {t : Tile} {said : Said} {after : List ℕ}
-    (told : NextTold window at (tile t)) (restored : Restored·In window t said after) where
+    (told : NextTold window at (tile t)) (restored : RestoredIn window t said after) where
   fits : t.at + length restored.new ≤ length window
   fits = omega (arith, restored.long, tile_within told)
 

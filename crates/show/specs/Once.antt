@@ -10,7 +10,7 @@ use Rattle.reel.specs.declared.Tile.{Tile}
 use Rattle.picture.specs.declared.Form.{Form}
 use Rattle.picture.specs.declared.tally.Tally.{Tally}
 use Rattle.window.specs.Window.{LookTold, a_tile}
-use Rattle.window.specs.Treat.{tile_bytes, changed, Restored·In}
+use Rattle.window.specs.Treat.{tile_bytes, changed, RestoredIn}
 use Rattle.window.specs.Once.{look_once}
 use Rattle.window.specs.declared.Step.{Step}
 use Rattle.show.specs.Show.{shown_of, behind_it, IsEnd, ending_of, Walks, full, over, goes_on}
@@ -22,7 +22,7 @@ use Rattle.show.specs.declared.Walked.{Walked}
 -- ---- one tile
 
 -- restoring a tile where it stands has one outcome
-module _ {window : List ℕ} {t : Tile} {said other : Said} {after later : List ℕ} (x : Restored·In window t said after) (y : Restored·In window t other later) where
+module _ {window : List ℕ} {t : Tile} {said other : Said} {after later : List ℕ} (x : RestoredIn window t said after) (y : RestoredIn window t other later) where
   both : (said ≡ other) × (x.new ≡ y.new)
   both = restore_told_once t.kind t.p t.l (tile_bytes window t) t.first t.second said other x.new y.new x.told y.told
 
@@ -58,7 +58,7 @@ module _ {form : Form} {last : Bool} {offset room : ℕ} where
   same_walks e f (goes_on {window} {after} {k = k} {t} {said} h told restored more) (goes_on {window = other} {k = j} {t = u} g told' restored' more') =
       let here = subst (λ (x : Walk). NextTold other x.place (tile t)) f (subst (λ (x : List ℕ). NextTold x k.place (tile t)) e told) in
       let same_tile = tile_once (next_told_once other j.place (tile t) (tile u) here told') in
-      let there = subst (λ (x : Tile). Restored·In other x said after) same_tile (subst (λ (x : List ℕ). Restored·In x t said after) e restored) in
+      let there = subst (λ (x : Tile). RestoredIn other x said after) same_tile (subst (λ (x : List ℕ). RestoredIn x t said after) e restored) in
       let once = restored_once there restored' in
       let rest = same_walks once.1 (λ i. behind_it form offset (f i) (same_tile i) (once.0 i)) more more' in
       (rest.0, λ i. shown_of form offset (f i) (same_tile i) (once.0 i) ++ rest.1 i, rest.2)

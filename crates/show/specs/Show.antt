@@ -12,7 +12,7 @@ use Rattle.picture.specs.Tally.{counted, Below}
 use Rattle.picture.specs.declared.Form.{Form}
 use Rattle.picture.specs.declared.tally.Tally.{Tally}
 use Rattle.window.specs.Window.{LookTold}
-use Rattle.window.specs.Treat.{Restored·In}
+use Rattle.window.specs.Treat.{RestoredIn}
 use Rattle.window.specs.declared.Step.{Step}
 use Rattle.window.specs.declared.Step.TheVariants as step
 use Rattle.show.specs.declared.Ending.{Ending}
@@ -54,14 +54,14 @@ pub data Walks (form : Form) (last : Bool) (offset room : ℕ) : List ℕ → Wa
   over : {window : List ℕ} {k : Walk} {s : Step} → k.used + 512 ≤ room → LookTold window k.place last s → IsEnd s
       → Walks form last offset room window k (record { walk = k; ending = ending_of s }) [] window
   goes_on : {window after final : List ℕ} {k : Walk} {t : Tile} {said : Said} {r : Walked} {more : List ℕ} → k.used + 512 ≤ room
-      → NextTold window k.place (tile t) → Restored·In window t said after
+      → NextTold window k.place (tile t) → RestoredIn window t said after
       → Walks form last offset room after (behind_it form offset k t said) r more final
       → Walks form last offset room window k r (shown_of form offset k t said ++ more) final
 
 -- SPEC 12.9: one tile is passed
 pub record PastTold (form : Form) (offset : ℕ) (window : List ℕ) (k : Walk) (t : Tile) (page : List ℕ) (r : Walk) (after page' : List ℕ) : Type 0 where
   pub said : Said
-  pub restored : Restored·In window t said after
+  pub restored : RestoredIn window t said after
   pub is : r ≡ behind_it form offset k t said
   pub shown : Puts page k.used (shown_of form offset k t said) r.used page'
   pub fits : r.used ≤ k.used + 512

@@ -5,7 +5,7 @@ pub mod status;
 
 ghost use Rattle.std.specs.Prelude.{◌+◌, ◌≤◌, length};
 ghost use Rattle.code.specs.Says.{Says};
-ghost use Rattle.reel.specs.Answer.{tile as tile·said};
+ghost use Rattle.reel.specs.Answer.{tile as tile_said};
 ghost use Rattle.reel.specs.Calls.{NextTold};
 ghost use Rattle.picture.specs.Tally.{Below};
 ghost use Rattle.show.specs.Show.{PastTold, AlongTold, Near};
@@ -42,7 +42,7 @@ fn past(
     tile: Tile,
     page: &mut [u8],
 ) -> Walk
-    requires next_told { NextTold window.old walk.place (tile·said tile) }
+    requires next_told { NextTold window.old walk.place (tile_said tile) }
     requires used_in_bounds { walk.used + 512 ≤ length page.old }
     requires below { Below 10000000000000000000 walk.tally }
     requires offset_bound { offset ≤ 100000000000000000 }

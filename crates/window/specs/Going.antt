@@ -12,7 +12,7 @@ use Rattle.reel.specs.Told.{tile_taken, tile_within}
 use Rattle.reel.specs.Walks.{moves_on}
 use Rattle.reel.specs.declared.Tile.{Tile}
 use Rattle.window.specs.Window.{LookTold, a_tile, Seeks, passes}
-use Rattle.window.specs.Treat.{Within, changed, tile_bytes, Restored·In, OnTile, there, RestoresAt}
+use Rattle.window.specs.Treat.{Within, changed, tile_bytes, RestoredIn, OnTile, there, RestoresAt}
 use Rattle.window.specs.declared.Sought.{Sought}
 use Rattle.window.specs.declared.Step.TheVariants as step
 
@@ -86,12 +86,12 @@ module _ {Answer : Type 0} (refuse : ℕ → Answer) (Told : Tile → List ℕ �
 pub restored_in : {window : List ℕ} {t : Tile} {said : Said} {end : ℕ} (new : List ℕ) → Within window t → end ≡ t.at + tile_length t.p
     → length new ≡ length (take (end - t.at) (drop t.at window))
     → RestoreTold t.kind t.p t.l (take (end - t.at) (drop t.at window)) t.first t.second said new
-    → Restored·In window t said (take t.at window ++ (new ++ drop (end - t.at) (drop t.at window)))
+    → RestoredIn window t said (take t.at window ++ (new ++ drop (end - t.at) (drop t.at window)))
 restored_in {window} {t} {said} {end} new w e long done =
     let count : end - t.at ≡ tile_length t.p = omega (arith, e) in
     let same : length new ≡ end - t.at = long ∙ length-take-le (end - t.at) (drop t.at window) (omega (arith, count, length-drop t.at window, w.whole)) in
     record { new = new; told = rw count at done; long = same ∙ count; is = put_back window t.at (end - t.at) new same }
 
-pub restores_at : {window after : List ℕ} {at : ℕ} {t : Tile} {said : Said} → NextTold window at (tile t) → Restored·In window t said after
+pub restores_at : {window after : List ℕ} {at : ℕ} {t : Tile} {said : Said} → NextTold window at (tile t) → RestoredIn window t said after
     → RestoresAt window at said after
 restores_at {window} {after} {at} {t} {said} told r = rw r.is (there told (r.told, r.long ∙ sym (bytes_long (within told))))

@@ -27,7 +27,7 @@ abbrev pub changed : List ℕ → ℕ → List ℕ → List ℕ
 changed window at new = take at window ++ (new ++ drop (length new) (drop at window))
 
 -- SPEC 12.2 and 7.6: a tile is restored where it stands
-pub record Restored·In (window : List ℕ) (t : Tile) (said : tile.Said) (after : List ℕ) : Type 0 where
+pub record RestoredIn (window : List ℕ) (t : Tile) (said : tile.Said) (after : List ℕ) : Type 0 where
   pub new : List ℕ
   pub told : RestoreTold t.kind t.p t.l (tile_bytes window t) t.first t.second said new
   pub long : length new ≡ tile_length t.p

@@ -10,7 +10,7 @@ ghost use Rattle.residue.specs.Size.{Size};
 ghost use Rattle.code.specs.Tile.{tile_length};
 ghost use Rattle.promise.specs.Answer.{restore_said};
 ghost use Rattle.window.specs.Window.{LookTold, Seeks};
-ghost use Rattle.window.specs.Treat.{Within, Restored·In};
+ghost use Rattle.window.specs.Treat.{Within, RestoredIn};
 
 use promise::Restored;
 use reel::{Found, Tile};
@@ -61,7 +61,7 @@ pub fn behind(tile: Tile) -> usize
 // Restores a tile where it stands.
 pub fn restore(window: &mut [u8], tile: Tile) -> Restored
     requires { Within window.old tile }
-    ensures { Restored·In window.old tile (restore_said result) window.new }
+    ensures { RestoredIn window.old tile (restore_said result) window.new }
 {
     let start = tile.at;
     let end = behind(tile);
