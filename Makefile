@@ -1,4 +1,4 @@
-# `make` alone says what there is. What stands behind ## is what it says: how long a target takes on two cores, and what it does.
+# `make` alone says what there is. What stands behind ## is what it says: how long a target takes on four cores, and what it does.
 
 REEL ?= samples/short.reel
 PREFIX ?= /usr/local
@@ -35,12 +35,12 @@ help: ## at once             this list
 	@echo
 	@echo 'README.md says what all this is for.'
 
-list: target/bin/list ## 2 minutes (at once) lists a sample reel, or with REEL=path another one; nothing is changed in it
+list: target/bin/list ## 5 minutes (at once) lists a sample reel, or with REEL=path another one; nothing is changed in it
 	@tools/list-reel "$(REEL)"
 
-lib: $(ARCHIVE) $(SHARED) ## 2 minutes (at once) proves the library for C and builds it: target/staticlib, target/shared
+lib: $(ARCHIVE) $(SHARED) ## 6 minutes (at once) proves the library for C and builds it: target/staticlib, target/shared
 
-install: lib $(PROGRAM) target/bin/list ## 6 minutes (at once) puts command, library and header below PREFIX, /usr/local if none is named
+install: lib $(PROGRAM) target/bin/list ## 12 minutes (at once) puts command, library and header below PREFIX, /usr/local if none is named
 	@tools/place "$(DESTDIR)$(PREFIX)" $(VERSION) $(SONAME) $(ARCHIVE) $(SHARED)
 	@echo "installed below $(DESTDIR)$(PREFIX): bin/counterfrost with its man page and its completion for bash, bin/counterfrost-list,"
 	@echo "include/counterfrost.h, and in lib the archive and the shared library"
@@ -50,18 +50,18 @@ install: lib $(PROGRAM) target/bin/list ## 6 minutes (at once) puts command, lib
 uninstall: ## at once             takes away what install puts below PREFIX
 	@tools/place --remove "$(DESTDIR)$(PREFIX)"
 
-dist: lib $(PROGRAM) target/bin/list ## 6 minutes (at once) a tar file with all that a user needs, and no need of the kit: target/dist
+dist: lib $(PROGRAM) target/bin/list ## 12 minutes (at once) a tar file with all that a user needs, and no need of the kit: target/dist
 	@rm -rf target/dist && mkdir -p target/dist
 	@tools/place "target/dist/$(DIST)" $(VERSION) $(SONAME) $(ARCHIVE) $(SHARED)
 	@tools/pack "target/dist/$(DIST)"
 	@echo "target/dist/$(DIST).tar.gz"
 
-test: kit ## 15 minutes          the whole gate: all proved, each wrong program tried, the programs run, library and command compared
+test: kit ## 12 minutes (3)       the whole gate: all proved, each wrong program tried, the programs run, library and command compared
 	@echo "kit: $$(rt version)"
 	@echo "pinned: $$(cat KIT)"
 	@.ci/gate
 
-check: kit ## 6 minutes (at once) proves all crates, tries the wrong programs, runs the programs; with NAME=crate that one, and what it stands on
+check: kit ## 10 minutes (1)       proves all crates, tries the wrong programs, runs the programs; with NAME=crate that one, and what it stands on
 	@rt ci $(NAME)
 
 face: lib $(PROGRAM) target/bin/list ## half a minute       once all is built: header, examples, installation, tar file, calls, stack
