@@ -89,6 +89,11 @@ fn is_closed<S: AsFd>(stream: &S) -> bool {
     }
 }
 
+// What the system says of a stream that is closed.
+pub fn closed() -> Error {
+    Error::from_raw_os_error(BAD_DESCRIPTOR)
+}
+
 // Is the name a hyphen, which stands for standard input?
 pub fn is_standard(name: &[u8]) -> bool {
     if name.len() != 1 {
@@ -115,7 +120,7 @@ pub fn open(rt: &HostRuntime, name: &[u8]) -> Result<Source, Error> {
         return Ok(Source::Named(file));
     }
     if is_closed(&rt.stdin()) {
-        return Err(Error::from_raw_os_error(BAD_DESCRIPTOR));
+        return Err(closed());
     }
     Ok(Source::Standard(rt.stdin()))
 }

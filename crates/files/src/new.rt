@@ -79,22 +79,31 @@ fn opened(rt: &HostRuntime, name: &[u8], force: bool) -> Result<File, Error> {
     }
 }
 
-// Does the system know the reel and a file by the same name?
+// Does the system know the reel and a file by the same name? Where it does not tell the reel's, it may.
 fn is_same(rt: &HostRuntime, reel: &Source, file: &File) -> bool {
     let one = name_of(rt, input::number(reel));
     let other = name_of(rt, file.as_raw_fd());
     match (one, other) {
         (Ok(one), Ok(other)) => words::is(one.as_str().as_bytes(), other.as_str().as_bytes()),
-        (Err(error), _) => may_be_same(rt, reel, file, error),
-        (_, Err(error)) => may_be_same(rt, reel, file, error),
+        (Ok(_), Err(_)) => false,
+        (Err(error), Ok(_)) => !is_no_text(error),
+        (Err(error), Err(other)) => {
+            if is_no_text(error) {
+                is_no_text(other) && is_one(rt, reel, file)
+            } else {
+                true
+            }
+        }
     }
 }
 
-// The same where the system did not tell both names. If one is no UTF-8, they may be the same only if both are one file.
-fn may_be_same(rt: &HostRuntime, reel: &Source, file: &File, error: Error) -> bool {
-    if error.kind() != ErrorKind::InvalidFilename {
-        return true;
-    }
+// Is there a name, but none that is UTF-8?
+fn is_no_text(error: Error) -> bool {
+    error.kind() == ErrorKind::InvalidFilename
+}
+
+// Are the reel and a file one file? Where the system does not tell, they may be.
+fn is_one(rt: &HostRuntime, reel: &Source, file: &File) -> bool {
     match (input::metadata(rt, reel), file.metadata()) {
         (Ok(one), Ok(other)) => one.dev() == other.dev() && one.ino() == other.ino(),
         _ => true,

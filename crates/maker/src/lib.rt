@@ -212,6 +212,9 @@ fn one(
     let Some(n) = asked::held(rt, input::plus(k, 4), &mut name) else {
         return 2;
     };
+    if input::is_standard(&name[..n]) && is_taken(rt, k) {
+        return input::failed(rt, &name[..n], input::closed());
+    }
     let view = match input::open(rt, &name[..n]) {
         Ok(source) => input::first(&source, text),
         Err(error) => return input::failed(rt, &name[..n], error),
@@ -234,6 +237,18 @@ fn one(
         tile,
         room,
     )
+}
+
+// Was standard input read for a text before the k-th one? It is read to its end, and then it is closed for all that come behind.
+fn is_taken(rt: &HostRuntime, k: usize) -> bool {
+    for j in 0..k {
+        let mut word = io::buffer();
+        let n = asked::plain(rt, input::plus(j, 4), &mut word);
+        if input::is_standard(&word[..n]) {
+            return true;
+        }
+    }
+    false
 }
 
 // Says how long a text has to be.

@@ -25,9 +25,6 @@ pub enum Step {
     More,
 }
 
-// The number by which a record that is cut short is refused.
-const CUT: usize = 7;
-
 // What stands at a place. In the last window of a reel nothing is missing; in any other, no end is the reel's, and no record is cut short
 // but by the window.
 pub fn look(window: &[u8], at: usize, last: bool) -> Step
@@ -40,7 +37,7 @@ pub fn look(window: &[u8], at: usize, last: bool) -> Step
             if last {
                 return Step::Stopped(refusal, from);
             }
-            if size::number(refusal) == CUT {
+            if size::number(refusal) == 7 {
                 return Step::More;
             }
             Step::Stopped(refusal, from)
