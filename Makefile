@@ -56,7 +56,7 @@ dist: lib $(PROGRAM) target/bin/list ## 12 minutes (at once) a tar file with all
 	@tools/pack "target/dist/$(DIST)"
 	@echo "target/dist/$(DIST).tar.gz"
 
-test: kit ## 12 minutes (3)       the whole gate: all proved, each wrong program tried, the programs run, library and command compared
+test: kit ## 12 minutes (2)       the whole gate: all proved, each wrong program tried, the programs run, library and command compared
 	@echo "kit: $$(rt version)"
 	@echo "pinned: $$(cat KIT)"
 	@.ci/gate
