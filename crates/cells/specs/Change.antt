@@ -1,13 +1,13 @@
 -- A change added to a tile. Assumes nothing.
 use Rattle.std.specs.Prelude.{◌≡◌, refl, List, ℕ, ◌+◌, ◌-◌, ◌*◌, ◌≤◌, ◌<◌, eqb, length, set}
-use Rattle.std.proofs.Common.{sym, ap, ap₂, ◌∙◌, mul-le-mul, mul-le-mul_left, arith, length-set, eq-eqb, ne_eqb}
+use Rattle.std.proofs.Common.{sym, ap, ap₂, ◌∙◌, mul-le-mul_left, arith, length-set, eq-eqb, ne_eqb}
 use Rattle.std.proofs.Math.Decide.{ℕ_discrete}
 use Rattle.std.specs.Int.Bits.{bit_xor}
 use Rattle.xor.specs.Xor.{◌⊕◌, assoc, zero_r}
 use Rattle.xor.specs.Sum.{xor_below, keep, keep_comm, none, more, ext, at}
 use Rattle.code.specs.Tile.{Cells, tile_length, place, cell, sum, Good, text_of}
 use Rattle.code.specs.Sums.{Padded, lone, plus, padded_plus, one_sum_ext}
-use Rattle.code.specs.Place.{row_lt, row_one, cell_in, cell_padded, same_within, place_is, cells_determine, tile_of, tile_length_lem, tile_in, text_byte, text_length_lem, text_at, text_is}
+use Rattle.code.specs.Place.{row_one, cell_in, cell_padded, same_within, place_is, cells_determine, tile_of, tile_length_lem, tile_in, text_byte, text_length_lem, text_at, text_is}
 use Rattle.code.specs.Settle.{Settles, settles_good}
 use Rattle.code.specs.OneLine.{row_at, column_at, along}
 use Rattle.code.specs.declared.Line.{Line}
@@ -39,12 +39,12 @@ unfolding run_part
 run_none start step x tile = record { size = refl; added = λ v. rw none (sym (zero_r _)) }
 
 -- one more is
-pub run_more : {start step n : ℕ} {x : ℕ → ℕ} {from to : List ℕ} {at : ℕ} → at ≡ start + step * n → at < length to
-    → RunAdded start step n x from to → RunAdded start step (n + 1) x from (set to at (bit_xor (held to at) (x n)))
+pub run_more : {start step n : ℕ} {x : ℕ → ℕ} {from to : List ℕ} → start + step * n < length to
+    → RunAdded start step n x from to → RunAdded start step (n + 1) x from (set to (start + step * n) (bit_xor (held to (start + step * n)) (x n)))
 unfolding run_part
-run_more {start} {step} {n} {x} {from} {to} {at} e h r = record {
-  size = length-set to at _ ∙ r.size;
-  added = λ v. hit to at (x n) v h ∙ rw (r.added v, e, more n (λ k. keep (eqb (start + step * k) v) (x k))) (assoc _ _ _);
+run_more {start} {step} {n} {x} {from} {to} h r = record {
+  size = length-set to (start + step * n) _ ∙ r.size;
+  added = λ v. hit to (start + step * n) (x n) v h ∙ rw (r.added v, more n (λ k. keep (eqb (start + step * k) v) (x k))) (assoc _ _ _);
 }
 
 -- ---- the run of a line, where there are n rows of w bytes, row by row
@@ -76,15 +76,6 @@ Among n w (Column c) = c < w
 nth_at : (w : ℕ) (a : Line) (k : ℕ) → begin w a + stride w a * k ≡ row_at a k * w + column_at a k
 nth_at w (Row r) k = omega arith
 nth_at w (Column c) k = omega arith
-
--- .. within the bytes
-pub line_in : (n w : ℕ) (a : Line) (k : ℕ) → Among n w a → k < count n w a → begin w a + stride w a * k < n * w
-line_in n w (Row r) k h l = rw (nth_at w (Row r) k) (row_lt n w r k h l)
-line_in n w (Column c) k h l = rw (nth_at w (Column c) k) (row_lt n w k c l h)
-
--- there are at most 65536 bytes
-pub rows_small : (n w : ℕ) → w ≤ n → n ≤ 256 → n * w ≤ 65536
-rows_small n w h l = let m : w ≤ 256 = omega arith in mul-le-mul l m
 
 -- the test of a byte is that of its row and that of its column
 byte_test : (w i j i' j' x : ℕ) → j < w → j' < w → keep (eqb (i' * w + j') (i * w + j)) x ≡ keep (eqb i i') (keep (eqb j j') x)

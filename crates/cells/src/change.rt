@@ -44,11 +44,7 @@ fn add_run(count: usize, start: usize, step: usize, change: &[u8; 257], bytes: &
     requires { (count ≤ 256) × (0 < count) × (0 < step) × (step ≤ 256) × (start + step * (count - 1) < length bytes.old) × (length bytes.old ≤ 65536) }
     ensures { RunAdded start step count (held change.now) bytes.old bytes.new }
 {
-    let mut at = start;
-    let mut k = 0;
-    while k < count {
-        bytes[at] = bytes[at] ^ change[k];
-        at += step;
-        k += 1;
+    for k in 0..count {
+        bytes[start + step * k] ^= change[k];
     }
 }

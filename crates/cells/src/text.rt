@@ -8,10 +8,8 @@ pub fn lay(p: usize, text: &[u8], tile: &mut [u8])
     requires { Lengths p (length tile.old) (length text.now) }
     ensures { Laid p text.now tile.old tile.new }
 {
-    let mut i = 0;
-    while i < p - 1 {
+    for i in 0..p - 1 {
         copy(p - 3, text, i * (p - 3), tile, i * (p - 1));
-        i += 1;
     }
 }
 
@@ -20,34 +18,15 @@ pub fn take(p: usize, tile: &[u8], text: &mut [u8])
     requires { Lengths p (length tile.now) (length text.old) }
     ensures { text.new ≡ text_of p tile.now }
 {
-    let mut start = 0;
-    let mut begin = 0;
-    while begin < text.len() {
-        copy(p - 3, tile, start, text, begin);
-        start += p - 1;
-        begin += p - 3;
+    for i in 0..p - 1 {
+        copy(p - 3, tile, i * (p - 1), text, i * (p - 3));
     }
 }
 
-// Copies `count` bytes, from `start` on, to `begin`. They go by way of a piece that is nobody else's: so the compiler knows that no byte is
-// read after it was written, moves them all at once, and makes no such piece.
+// Copies `count` bytes, from `start` on, to `begin`.
 fn copy(count: usize, from: &[u8], start: usize, to: &mut [u8], begin: usize)
-    requires { (count ≤ 256) × (start + count ≤ length from.now) × (begin + count ≤ length to.old) }
-    ensures { Copied from.now start to.old begin count to.new }
-{
-    let mut piece = [0u8; 256];
-    copy_each(count, from, start, &mut piece, 0);
-    copy_each(count, &piece, 0, to, begin);
-}
-
-// Copies them one by one.
-fn copy_each(count: usize, from: &[u8], start: usize, to: &mut [u8], begin: usize)
     requires { (start + count ≤ length from.now) × (begin + count ≤ length to.old) }
     ensures { Copied from.now start to.old begin count to.new }
 {
-    let mut k = 0;
-    while k < count {
-        to[begin + k] = from[start + k];
-        k += 1;
-    }
+    to[begin..begin + count].copy_from_slice(&from[start..start + count]);
 }

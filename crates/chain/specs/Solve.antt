@@ -1,5 +1,5 @@
 -- Changes in two lines that settle sums, as arrays hold them. Assumes nothing.
-use Rattle.std.specs.Prelude.{◌≡◌, ℕ, ◌+◌, ◌-◌, ◌*◌, ◌%◌, ◌≤◌, ◌<◌}
+use Rattle.std.specs.Prelude.{◌≡◌, ℕ, ◌+◌, ◌-◌, ◌*◌, ◌%◌, ◌≤◌, ◌<◌, Result, Ok, Err}
 use Rattle.std.proofs.Common.{sym, ap, ap₂, ◌∙◌, arith}
 use Rattle.std.proofs.Math.Decide.{ℕ_discrete}
 use Rattle.xor.specs.Xor.{◌⊕◌, xors, self, zero_r}
@@ -16,8 +16,8 @@ use Rattle.code.specs.declared.Line.TheVariants.{Row, Column}
 use Rattle.walk.specs.Fill.{through_once}
 use Rattle.walk.specs.Along.{Along, TakenOff}
 use Rattle.classes.specs.Many.{SettledSome}
-use Rattle.classes.specs.declared.Fillings.{Fillings}
-use Rattle.classes.specs.declared.Fillings.TheVariants as fillings
+use Rattle.classes.specs.declared.Unfilled.{Unfilled}
+use Rattle.classes.specs.declared.Unfilled.TheVariants as unfilled
 use Rattle.chain.specs.Hand.{Onward, weight_of, leads, FromColumn}
 
 -- x in the line a and y in the line b settle the sums A and B, and are 0 where the lines meet the added zeros
@@ -26,12 +26,12 @@ pub record SettledBy (p l : ℕ) (a b : Line) (A B x y : ℕ → ℕ) : Type 0 w
   pub first : x (p - 1) ≡ 0
   pub second : y (p - 1) ≡ 0
 
--- how many changes in the lines a and b settle the sums. Where it is one, x and y are it, and the lines are sure; where they are not, there
--- is none, or there are several
-pub data Solved (p l : ℕ) (a b : Line) (A B x y : ℕ → ℕ) : Fillings → Type 0 where
-  none : (SettledSome p l a b A B → ⊥) → Solved p l a b A B x y fillings.None
-  one : Sure p l a b → SettledBy p l a b A B x y → Solved p l a b A B x y fillings.One
-  several : (Sure p l a b → ⊥) → SettledSome p l a b A B → Solved p l a b A B x y fillings.Several
+-- whether one change in the lines a and b settles the sums. Where it does, x and y are it, and the lines are sure; where not, there is none, or
+-- there are several
+pub data Solved (p l : ℕ) (a b : Line) (A B x y : ℕ → ℕ) : Result Unit Unfilled → Type 0 where
+  none : (SettledSome p l a b A B → ⊥) → Solved p l a b A B x y (Err unfilled.None)
+  one : Sure p l a b → SettledBy p l a b A B x y → Solved p l a b A B x y (Ok tt)
+  several : (Sure p l a b → ⊥) → SettledSome p l a b A B → Solved p l a b A B x y (Err unfilled.Several)
 
 -- how many hops there are between a column and the line b
 abbrev pub hops_of : ℕ → Line → ℕ

@@ -1,7 +1,6 @@
 // The two check columns of a tile.
-ghost use Rattle.std.specs.Prelude.{◌≡◌, ◌-◌, ◌≤◌, length};
+ghost use Rattle.std.specs.Prelude.{◌≡◌, ◌-◌, length};
 ghost use Rattle.xor.specs.Sum.{xor_below};
-ghost use Rattle.code.specs.Slope.{Slope};
 ghost use Rattle.code.specs.Tile.{tile_length};
 ghost use Rattle.code.specs.declared.Line.TheVariants.{Column};
 ghost use Rattle.code.specs.Held.{held};
@@ -11,19 +10,19 @@ use crate::pair;
 use crate::pair::Pair;
 use cells::change::add_line;
 use code::Line;
+use code::lattice::Lattice;
 
 // Adds to the check columns the changes that settle the sums a and b.
-pub fn settle(p: usize, l: usize, a: &[u8; 257], b: &[u8; 257], tile: &mut [u8])
-    requires slope { Slope p l }
-    requires p_bound { (p ≤ 257) × (length tile.old ≡ tile_length p) }
-    requires a_value { xor_below p (held a.now) ≡ xor_below p (held b.now) }
-    ensures { LinesSettled p l (Column (p - 3)) (Column (p - 2)) (held a.now) (held b.now) tile.old tile.new }
+pub fn settle(lattice: Lattice, a: &[u8; 257], b: &[u8; 257], tile: &mut [u8])
+    requires tile_len { length tile.old ≡ tile_length lattice.p }
+    requires a_value { xor_below lattice.p (held a.now) ≡ xor_below lattice.p (held b.now) }
+    ensures { LinesSettled lattice.p lattice.l (Column (lattice.p - 3)) (Column (lattice.p - 2)) (held a.now) (held b.now) tile.old tile.new }
 {
+    let p = lattice.p;
     let first = p - 3;
     let second = p - 2;
     let checks = Pair {
-        p: p,
-        l: l,
+        lattice,
         column: first,
         line: Line::Column(second),
     };

@@ -5,3 +5,4 @@
 pub mod checks;
 pub mod filling;
 pub mod pair;
+mod sums;

@@ -2,7 +2,6 @@
 // line of slope 1 it comes to a symbol of the second line, from there by a line of slope l to one of the column, and so further.
 ghost use Rattle.std.specs.Prelude.{◌≡◌, ◌-◌, ◌*◌, ◌≤◌, ◌<◌, length};
 ghost use Rattle.residue.specs.Remainder as remainder;
-ghost use Rattle.code.specs.Slope.{Slope};
 ghost use Rattle.code.specs.OneLine as law;
 ghost use Rattle.code.specs.declared.Line.TheVariants.{Column};
 ghost use Rattle.code.specs.Held.{held};
@@ -10,30 +9,30 @@ ghost use Rattle.chain.specs.Hand.{Places, weight_of, FromColumn, FromLine};
 ghost use Rattle.chain.specs.Solve.{SettledBy, Closes, hops_of};
 
 use code::Line;
+use code::lattice::Lattice;
 use walk::along::{along, take_off_common};
 use walk::index::{number, step, through};
 
-// A column and a second line of a tile of size p and slope l.
+// A column and a second line of a tile.
 #[derive(Clone, Copy)]
 pub struct Pair {
-    pub p: usize,
-    pub l: usize,
+    pub lattice: Lattice,
     pub column: usize,
     pub line: Line,
 }
 
 // Puts into x the change in the column, and into y that in the second line, which settle the sums a and b.
 pub fn solve(pair: Pair, a: &[u8; 257], b: &[u8; 257], x: &mut [u8; 257], y: &mut [u8; 257])
-    requires slope { Slope pair.p pair.l }
-    requires p_bound { (pair.p ≤ 257) × (pair.column < pair.p) × (law.number pair.line < pair.p) }
-    requires closes { Closes pair.p pair.l pair.column pair.line (held a.now) (held b.now) }
-    requires x_len { (length x.old ≡ 257) × (length y.old ≡ 257) }
-    ensures { SettledBy pair.p pair.l (Column pair.column) pair.line (held a.now) (held b.now) (held x.new) (held y.new) }
+    requires column_lt { pair.column < pair.lattice.p }
+    requires line_lt { law.number pair.line < pair.lattice.p }
+    requires closes { Closes pair.lattice.p pair.lattice.l pair.column pair.line (held a.now) (held b.now) }
+    ensures { SettledBy pair.lattice.p pair.lattice.l (Column pair.column) pair.line (held a.now) (held b.now) (held x.new) (held y.new) }
 {
-    let p = pair.p;
-    let l = pair.l;
-    let c = pair.column;
-    let line = pair.line;
+    let Pair {
+        lattice: Lattice { p, l },
+        column: c,
+        line,
+    } = pair;
     *x = [0u8; 257];
     along(p, number(line), 1, a, y);
     let base = through(p, l, line, 0);
@@ -95,10 +94,8 @@ fn to_line(
     i: usize,
     unfilled: usize,
 )
-    requires places { Places p c n base weight back i }
-    requires x_len { (length x.old ≡ 257) × (length y.old ≡ 257) }
-    ensures from_column { FromColumn p c n base weight back (held a.now) (held b.now) i unfilled (held x.old) (held y.old) (held x.new) (held y.new) }
-    ensures y_len { length y.new ≡ 257 }
+    requires { Places p c n base weight back i }
+    ensures { FromColumn p c n base weight back (held a.now) (held b.now) i unfilled (held x.old) (held y.old) (held x.new) (held y.new) }
 {
     if unfilled == 0 {
         return;
@@ -125,10 +122,8 @@ fn to_column(
     k: usize,
     unfilled: usize,
 )
-    requires places { Places p c n base weight back k }
-    requires x_len { (length x.old ≡ 257) × (length y.old ≡ 257) }
-    ensures from_line { FromLine p c n base weight back (held a.now) (held b.now) k unfilled (held x.old) (held y.old) (held x.new) (held y.new) }
-    ensures y_len { length y.new ≡ 257 }
+    requires { Places p c n base weight back k }
+    ensures { FromLine p c n base weight back (held a.now) (held b.now) k unfilled (held x.old) (held y.old) (held x.new) (held y.new) }
 {
     if unfilled == 0 {
         return;

@@ -1,6 +1,6 @@
 -- How many changes in a column with a row settle the sums, at any slope: where the powers reach all the two sums through the crossing
 -- decide, and where they do not the classes do. Assumes nothing.
-use Rattle.std.specs.Prelude.{◌≡◌, refl, ◌≢◌, ℕ, ◌-◌, ◌<◌}
+use Rattle.std.specs.Prelude.{◌≡◌, refl, ◌≢◌, ℕ, ◌-◌, ◌<◌, Result, Ok, Err}
 use Rattle.std.proofs.Common.{inl, inr, arith}
 use Rattle.residue.specs.Power.{ReachesAll}
 use Rattle.residue.specs.Order.{Order, order_reaches}
@@ -13,8 +13,8 @@ use Rattle.code.specs.Classes.{ClassesAgree, classes_settled, settles_classes}
 use Rattle.code.specs.Fillings.{Sure}
 use Rattle.code.specs.declared.Line.{Line}
 use Rattle.code.specs.declared.Line.TheVariants.{Row, Column}
-use Rattle.classes.specs.declared.Fillings.{Fillings}
-use Rattle.classes.specs.declared.Fillings.TheVariants as fillings
+use Rattle.classes.specs.declared.Unfilled.{Unfilled}
+use Rattle.classes.specs.declared.Unfilled.TheVariants as unfilled
 
 -- some change in the lines a and b settles the sums
 pub record SettledSome (p l : ℕ) (a b : Line) (A B : ℕ → ℕ) : Type 0 where
@@ -23,11 +23,11 @@ pub record SettledSome (p l : ℕ) (a b : Line) (A B : ℕ → ℕ) : Type 0 whe
   pub padded : Padded p by
   pub off : ZeroOffBoth p a b by
 
--- how many there are in column t with row s. Where it is one, the slope reaches all, and the two sums through the crossing agree
-pub data CrossedMany (p l t s : ℕ) (A B : ℕ → ℕ) : Fillings → Type 0 where
-  no_crossed : (SettledSome p l (Column t) (Row s) A B → ⊥) → CrossedMany p l t s A B fillings.None
-  one_crossed : ReachesAll p l → A (line p 1 s t) ≡ B (line p l s t) → CrossedMany p l t s A B fillings.One
-  several_crossed : (Sure p l (Column t) (Row s) → ⊥) → SettledSome p l (Column t) (Row s) A B → CrossedMany p l t s A B fillings.Several
+-- whether there is one in column t with row s, and no other. Where it is, the slope reaches all, and the two sums through the crossing agree
+pub data CrossedMany (p l t s : ℕ) (A B : ℕ → ℕ) : Result Unit Unfilled → Type 0 where
+  no_crossed : (SettledSome p l (Column t) (Row s) A B → ⊥) → CrossedMany p l t s A B (Err unfilled.None)
+  one_crossed : ReachesAll p l → A (line p 1 s t) ≡ B (line p l s t) → CrossedMany p l t s A B (Ok tt)
+  several_crossed : (Sure p l (Column t) (Row s) → ⊥) → SettledSome p l (Column t) (Row s) A B → CrossedMany p l t s A B (Err unfilled.Several)
 
 -- ---- which it is
 

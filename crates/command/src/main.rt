@@ -8,7 +8,7 @@ use std::process::ExitCode;
 pub fn counterfrost_command(rt: &HostRuntime) -> i32
     ensures { Exit result }
 {
-    desk::run(rt)
+    i32::from(desk::run(rt))
 }
 
 fn main(rt: HostRuntime) -> ExitCode {

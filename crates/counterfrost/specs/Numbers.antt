@@ -1,9 +1,8 @@
 -- WHAT A READER MUST BELIEVE: the answer and the numbers that stand for what a correction, a record and a reel say (SPEC 11.1 and 11.2).
 -- Assumes nothing.
-use Rattle.std.specs.Prelude.{◌≡◌, ℕ}
+use Rattle.std.specs.Prelude.{◌≡◌, ℕ, None}
 use Rattle.sheet.specs.Answer as sheet
 use Rattle.flag.specs.Flag.{flag_number}
-use Rattle.flag.specs.declared.Flag.TheVariants.{None}
 use Rattle.printer.specs.Lay as lay
 use Rattle.reel.specs.Answer as reel
 use Rattle.reel.specs.declared.Tile.{Tile}

@@ -11,11 +11,9 @@ ghost use Rattle.word.specs.Version.{version};
 ghost use Rattle.counterfrost.specs.Calls.{HouseWorded, TakesWorded, WriteWorded, ReadWorded, RepairWorded, InspectWorded, RecoverWorded, FillWorded, JudgeWorded, CorrectWorded, NextWorded, LayWorded};
 
 use header::Header;
-use printer::Laid;
 use promise::Repaired;
 use reel::Found;
-use sheet::Corrected;
-use size::House;
+use size::Refusal;
 
 // The house slope of the size p.
 #[unsafe(no_mangle)]
@@ -30,7 +28,7 @@ pub extern "C" fn cf_house_slope(p: usize) -> u64
 pub extern "C" fn cf_takes(kind: usize, p: usize, l: usize) -> u64
     ensures { TakesWorded kind p l result }
 {
-    word::of_judgement(size::judge(word::kind(kind), p, l))
+    word::outcome(size::judge(word::kind(kind), p, l))
 }
 
 // Writes the good tile that has the text.
@@ -38,7 +36,7 @@ pub extern "C" fn cf_takes(kind: usize, p: usize, l: usize) -> u64
 pub extern "C" fn cf_write(kind: usize, p: usize, l: usize, text: &[u8], tile: &mut [u8]) -> u64
     ensures { WriteWorded kind p l text.now tile.old result tile.new }
 {
-    word::of_outcome(tile::write(word::kind(kind), p, l, text, tile))
+    word::outcome(tile::write(word::kind(kind), p, l, text, tile))
 }
 
 // Reads the text out of a good tile.
@@ -46,7 +44,7 @@ pub extern "C" fn cf_write(kind: usize, p: usize, l: usize, text: &[u8], tile: &
 pub extern "C" fn cf_read(kind: usize, p: usize, l: usize, tile: &[u8], text: &mut [u8]) -> u64
     ensures { ReadWorded kind p l tile.now text.old result text.new }
 {
-    word::of_outcome(tile::read(word::kind(kind), p, l, tile, text))
+    word::outcome(tile::read(word::kind(kind), p, l, tile, text))
 }
 
 // Repairs one hurt column, or one hurt row, and names what was hurt.
@@ -87,7 +85,7 @@ pub extern "C" fn cf_fill(
 {
     let first = flag::line(first);
     let second = flag::line(second);
-    word::of_outcome(tile::fill(word::kind(kind), p, l, tile, first, second))
+    word::outcome(tile::fill(word::kind(kind), p, l, tile, first, second))
 }
 
 // Judges a tile that somebody restored from a scan, in one or two lines.
@@ -104,7 +102,7 @@ pub extern "C" fn cf_judge(
 {
     let first = flag::line(first);
     let second = flag::line(second);
-    word::of_outcome(tile::judge(p, l, scan, restored, first, second))
+    word::outcome(tile::judge(p, l, scan, restored, first, second))
 }
 
 // Corrects a tile by a sheet.
@@ -119,16 +117,12 @@ pub extern "C" fn cf_correct(
 ) -> u64
     ensures { CorrectWorded kind p l tile.old sheet.now result tile.new count_or_offset.new }
 {
-    match sheet::correct(word::kind(kind), p, l, tile, sheet) {
-        Corrected::Records(count) => {
-            *count_or_offset = count as u64;
-            word::done()
-        }
-        Corrected::Refused(refusal, at) => {
-            *count_or_offset = at as u64;
-            word::refused(refusal)
-        }
-    }
+    let (answer, number) = match sheet::correct(word::kind(kind), p, l, tile, sheet) {
+        Ok(count) => (word::done(), count),
+        Err(fault) => (word::refused(fault.refusal), fault.at),
+    };
+    *count_or_offset = number as u64;
+    answer
 }
 
 // What stands at a place of a reel. Every number is set: where there is no value, the flags to none and the others to 0.
@@ -155,15 +149,12 @@ pub extern "C" fn cf_next(
     *offset = 0;
     match reel::next(reel, at) {
         Found::Tile(tile) => {
-            let of = tile.kind;
-            let one = tile.first;
-            let other = tile.second;
-            *kind = word::kind_number(of);
+            *kind = word::kind_number(tile.kind);
             *number = tile.number as u64;
             *p = tile.p as u64;
             *l = tile.l as u64;
-            *first = flag::number(one) as u64;
-            *second = flag::number(other) as u64;
+            *first = flag::number(tile.first) as u64;
+            *second = flag::number(tile.second) as u64;
             *offset = tile.at as u64;
             word::done()
         }
@@ -198,16 +189,12 @@ pub extern "C" fn cf_lay(
         first: flag::read(first),
         second: flag::read(second),
     };
-    match printer::lay(header, tile, room) {
-        Laid::Record(n) => {
-            *length = n as u64;
-            word::done()
-        }
-        Laid::Refused(refusal) => {
-            *length = 0;
-            word::refused(refusal)
-        }
-    }
+    let (answer, count) = match printer::lay(header, tile, room) {
+        Ok(count) => (word::done(), count),
+        Err(refusal) => (word::refused(refusal), 0),
+    };
+    *length = count as u64;
+    answer
 }
 
 // The version of this library.
@@ -219,26 +206,26 @@ pub extern "C" fn cf_version() -> u64
 }
 
 // What the house slope's call answers.
-fn of_house(answer: House) -> u64
+fn of_house(answer: Result<usize, Refusal>) -> u64
     requires { Fits (spec.size_answer (house_said answer)) }
     ensures { result ≡ spec.word (spec.size_answer (house_said answer)) }
 {
     match answer {
-        House::Slope(l) => word::word(word::DONE, l as u16, 0),
-        House::Refused(refusal) => word::refused(refusal),
+        Ok(l) => word::word(word::DONE, l as u16, 0),
+        Err(refusal) => word::refused(refusal),
     }
 }
 
 // What repair answers, and inspect, and recover.
-fn of_repair(answer: Repaired) -> u64
+fn of_repair(answer: Result<Repaired, Refusal>) -> u64
     requires { Fits (spec.tile_answer (repair_said answer)) }
     ensures { result ≡ spec.word (spec.tile_answer (repair_said answer)) }
 {
     match answer {
-        Repaired::Clean => word::done(),
-        Repaired::Cell(r, c) => word::word(word::CELL, r as u16, c as u16),
-        Repaired::Column(c) => word::word(word::COLUMN, c as u16, 0),
-        Repaired::Row(r) => word::word(word::ROW, r as u16, 0),
-        Repaired::Refused(refusal) => word::refused(refusal),
+        Ok(Repaired::Clean) => word::done(),
+        Ok(Repaired::Cell(r, c)) => word::word(word::CELL, r as u16, c as u16),
+        Ok(Repaired::Column(c)) => word::word(word::COLUMN, c as u16, 0),
+        Ok(Repaired::Row(r)) => word::word(word::ROW, r as u16, 0),
+        Err(refusal) => word::refused(refusal),
     }
 }

@@ -1,38 +1,120 @@
 // The new reel. It is written beside, under its name with `.part` behind it, and gets its name when it is whole: a run that is interrupted
 // or refused leaves no half reel under that name. Nothing that was there before is touched, but NEW itself where that is asked for.
-ghost use Rattle.io.specs.Counts.{IsPrefixLen};
-ghost use Rattle.files.specs.Exit.{Exit};
-
+use crate::held::Word;
 use crate::input::Source;
-use crate::{input, say};
-use std::fmt::InlineText;
+use crate::told::Told;
+use crate::{input, same, say};
 use std::fs;
 use std::fs::{File, OpenOptions};
-use std::io::{Error, ErrorKind};
+use std::io::{Error, ErrorKind, Write};
 use std::os::fd::AsRawFd;
-use std::os::unix::fs::MetadataExt;
-use std::path::PathBuf;
 
-// Puts the name of what is written into a buffer, and answers its length.
-pub fn part(new: &[u8], part: &mut [u8]) -> usize
-    ensures { IsPrefixLen result part.new }
-{
-    let named = append(part, 0, new);
-    let n = append(part, named, b".part");
-    say::at_most(n, part)
+// The file that is written, the name that it has meanwhile, the one that it is to get, and whether it may take that from another file.
+#[derive(Drop)]
+pub struct NewReel<'a> {
+    pub file: File,
+    pub part: Word,
+    name: &'a [u8],
+    force: bool,
 }
 
-// Puts words behind the first bytes of a buffer, as far as there is room.
-fn append(to: &mut [u8], at: usize, words: &[u8]) -> usize {
-    let mut i = at;
-    for word in words {
-        if i >= to.len() {
-            break;
+// Makes a new reel by some work on it, beside a reel that is read, if there is one. It is kept where the work is done, and taken away where
+// that failed.
+pub fn made<T: Drop, E: Drop + From<Told>, F: FnOnce(&NewReel) -> Result<T, E>>(
+    rt: &HostRuntime,
+    reel: Option<&Source>,
+    name: &[u8],
+    force: bool,
+    work: F,
+) -> Result<T, E>
+    requires { F.IsAlwaysCallable work }
+{
+    let new = NewReel::begun(rt, reel, name, force)?;
+    match work(&new) {
+        Ok(done) => {
+            new.keep(rt)?;
+            Ok(done)
         }
-        to[i] = *word;
-        i += 1;
+        Err(error) => {
+            new.remove(rt);
+            Err(error)
+        }
     }
-    i
+}
+
+impl<'a> NewReel<'a> {
+    // Begins the new reel, beside a reel that is read. If it cannot be made, that is said.
+    fn begun(
+        rt: &HostRuntime,
+        reel: Option<&Source>,
+        name: &'a [u8],
+        force: bool,
+    ) -> Result<NewReel<'a>, Told> {
+        let mut part = Word::empty();
+        part.push(name);
+        part.push(b".part");
+        may_be_made(rt, reel, name, force)?;
+        let file = create(rt, part.bytes())?;
+        Ok(NewReel {
+            file,
+            part,
+            name,
+            force,
+        })
+    }
+
+    // Writes the first bytes of a room behind what the new reel has.
+    pub fn write(&self, room: &[u8], count: usize) -> Result<(), Error> {
+        let mut file = &self.file;
+        let count = say::at_most(count, room);
+        file.write_all(&room[..count])
+    }
+
+    // Gives the new reel its name, when all of it is on the device. If that fails, it is said, and the new reel is taken away.
+    fn keep(self, rt: &HostRuntime) -> Result<(), Told> {
+        let NewReel {
+            file,
+            part,
+            name,
+            force,
+        } = self;
+        let named = named(rt, file, part.bytes(), name, force);
+        if named.is_err() {
+            take_away(rt, part.bytes());
+        }
+        named
+    }
+
+    // Takes away what was written so far.
+    fn remove(self, rt: &HostRuntime) {
+        let NewReel { file, part, .. } = self;
+        drop(file);
+        take_away(rt, part.bytes());
+    }
+}
+
+// May the new reel have its name? If not, it is said why. There is no `reel` where none is read.
+fn may_be_made(
+    rt: &HostRuntime,
+    reel: Option<&Source>,
+    name: &[u8],
+    force: bool,
+) -> Result<(), Told> {
+    if input::is_standard(name) {
+        return Err(say::about(rt, name, b": no name for a new reel"));
+    }
+    if !is_there(rt, name) {
+        return Ok(());
+    }
+    if let Some(reel) = reel {
+        if same::is_reel(rt, reel, name, force) {
+            return Err(say::about(rt, name, b": the reel itself"));
+        }
+    }
+    if !force {
+        return Err(is_taken(rt, name));
+    }
+    Ok(())
 }
 
 // Is something there under the name, a link that leads nowhere too? Nothing is opened for that. Where the system says something else, whoever
@@ -44,96 +126,24 @@ fn is_there(rt: &HostRuntime, name: &[u8]) -> bool {
     }
 }
 
-// The name by which the system knows what is open under a number.
-fn name_of(rt: &HostRuntime, fd: i32) -> Result<PathBuf, Error> {
-    let link = InlineText::<32>::of(format_args!("/proc/self/fd/{fd}"));
-    fs::read_link(rt, link.as_str())
+// Says that something is there under the name.
+fn is_taken(rt: &HostRuntime, name: &[u8]) -> Told {
+    say::about(rt, name, b": exists already; --force replaces it")
 }
 
-// Is what is there under the name the reel that is read? Where the system does not tell, it may be. A pipe is opened for reading and writing,
-// which does not wait; for reading alone only if it is to be replaced. What cannot be opened may be the reel only if that came opened.
-fn is_reel(rt: &HostRuntime, reel: &Source, name: &[u8], force: bool) -> bool {
-    match opened(rt, name, force) {
-        Ok(file) => is_same(rt, reel, &file),
-        Err(_) => match reel {
-            Source::Standard(_) => true,
-            Source::Named(_) => false,
-        },
-    }
-}
-
-// Opens what is there under the name.
-fn opened(rt: &HostRuntime, name: &[u8], force: bool) -> Result<File, Error> {
-    let path = input::path(name)?;
-    let mut both = OpenOptions::new();
-    both.read(true).write(true);
-    match both.open(rt, path) {
+// Makes the file of a new reel, which is not there yet. It may not take the number of a standard stream that is closed.
+fn create(rt: &HostRuntime, part: &[u8]) -> Result<File, Told> {
+    match create_new(rt, part) {
+        Ok(file) if file.as_raw_fd() < 3 => {
+            take_away(rt, part);
+            Err(say::line(rt, b"standard output: closed"))
+        }
         Ok(file) => Ok(file),
-        Err(error) => {
-            if force {
-                File::open(rt, path)
-            } else {
-                Err(error)
-            }
-        }
+        Err(error) => Err(not_made(rt, part, error)),
     }
 }
 
-// Does the system know the reel and a file by the same name? Where it does not tell the reel's, it may.
-fn is_same(rt: &HostRuntime, reel: &Source, file: &File) -> bool {
-    let one = name_of(rt, input::number(reel));
-    let other = name_of(rt, file.as_raw_fd());
-    match (one, other) {
-        (Ok(one), Ok(other)) => words::is(one.as_str().as_bytes(), other.as_str().as_bytes()),
-        (Ok(_), Err(_)) => false,
-        (Err(error), Ok(_)) => !is_no_text(error),
-        (Err(error), Err(other)) => {
-            if is_no_text(error) {
-                is_no_text(other) && is_one(rt, reel, file)
-            } else {
-                true
-            }
-        }
-    }
-}
-
-// Is there a name, but none that is UTF-8?
-fn is_no_text(error: Error) -> bool {
-    error.kind() == ErrorKind::InvalidFilename
-}
-
-// Are the reel and a file one file? Where the system does not tell, they may be.
-fn is_one(rt: &HostRuntime, reel: &Source, file: &File) -> bool {
-    match (input::metadata(rt, reel), file.metadata()) {
-        (Ok(one), Ok(other)) => one.dev() == other.dev() && one.ino() == other.ino(),
-        _ => true,
-    }
-}
-
-// May the new reel have its name? If not, it is said why. There is no `reel` where none is read.
-fn is_free(rt: &HostRuntime, reel: Option<&Source>, new: &[u8], force: bool) -> bool {
-    if input::is_standard(new) {
-        say::about(rt, new, b": no name for a new reel");
-        return false;
-    }
-    if !is_there(rt, new) {
-        return true;
-    }
-    if let Some(reel) = reel {
-        if is_reel(rt, reel, new, force) {
-            say::about(rt, new, b": the reel itself");
-            return false;
-        }
-    }
-    if !force {
-        say::about(rt, new, b": exists already; --force replaces it");
-        return false;
-    }
-    true
-}
-
-// Makes the file of a new reel, which is not there yet.
-fn create(rt: &HostRuntime, part: &[u8]) -> Result<File, Error> {
+fn create_new(rt: &HostRuntime, part: &[u8]) -> Result<File, Error> {
     let path = input::path(part)?;
     OpenOptions::new()
         .write(true)
@@ -141,11 +151,29 @@ fn create(rt: &HostRuntime, part: &[u8]) -> Result<File, Error> {
         .open(rt, path)
 }
 
-// Takes a file away. Where that fails it stays, and nobody is told.
-fn remove(rt: &HostRuntime, name: &[u8]) {
-    if let Ok(path) = input::path(name) {
-        let _ = fs::remove_file(rt, path);
+// Says why the new reel could not be made.
+fn not_made(rt: &HostRuntime, part: &[u8], error: Error) -> Told {
+    if error.kind() == ErrorKind::AlreadyExists {
+        say::about(
+            rt,
+            part,
+            b": exists already; it is another run's, or was left by one that was interrupted",
+        )
+    } else {
+        say::failed(rt, part, error)
     }
+}
+
+// The file of a new reel gets its name, if that is still free or may be taken.
+fn named(rt: &HostRuntime, file: File, part: &[u8], name: &[u8], force: bool) -> Result<(), Told> {
+    if let Err(error) = file.sync_all() {
+        return Err(say::failed(rt, part, error));
+    }
+    drop(file);
+    if !force && is_there(rt, name) {
+        return Err(is_taken(rt, name));
+    }
+    rename(rt, part, name).map_err(|error| say::failed(rt, name, error))
 }
 
 // Gives a file another name.
@@ -153,78 +181,9 @@ fn rename(rt: &HostRuntime, from: &[u8], to: &[u8]) -> Result<(), Error> {
     fs::rename(rt, input::path(from)?, input::path(to)?)
 }
 
-// Begins the new reel, beside a reel that is read. If it cannot be made, that is said.
-pub fn begin(
-    rt: &HostRuntime,
-    reel: Option<&Source>,
-    new: &[u8],
-    part: &[u8],
-    force: bool,
-) -> Option<File> {
-    if !is_free(rt, reel, new, force) {
-        return None;
+// Takes a file away. Where that fails it stays, and nobody is told.
+fn take_away(rt: &HostRuntime, name: &[u8]) {
+    if let Ok(path) = input::path(name) {
+        let _ = fs::remove_file(rt, path);
     }
-    match create(rt, part) {
-        Ok(file) => beside_standard(rt, file, part),
-        Err(error) => {
-            not_begun(rt, part, error);
-            None
-        }
-    }
-}
-
-// The new reel, unless it took the number of a standard stream that is closed.
-fn beside_standard(rt: &HostRuntime, file: File, part: &[u8]) -> Option<File> {
-    if file.as_raw_fd() >= 3 {
-        return Some(file);
-    }
-    remove(rt, part);
-    say::line(rt, b"standard output: closed");
-    None
-}
-
-// Says why the new reel could not be made.
-fn not_begun(rt: &HostRuntime, part: &[u8], error: Error) {
-    if error.kind() == ErrorKind::AlreadyExists {
-        say::about(
-            rt,
-            part,
-            b": exists already; it is another run's, or was left by one that was interrupted",
-        );
-    } else {
-        say::failed(rt, part, error);
-    }
-}
-
-// Gives the new reel its name, when all of it is on the device. The status that was reached so far stays, or it is said what failed.
-pub fn keep(rt: &HostRuntime, file: File, part: &[u8], new: &[u8], force: bool, status: i32) -> i32
-    requires { Exit status }
-    ensures { Exit result }
-{
-    if let Err(error) = file.sync_all() {
-        let failed = say::failed(rt, part, error);
-        drop(rt, file, part);
-        return failed;
-    }
-    close(file);
-    if !force && is_there(rt, new) {
-        say::about(rt, new, b": exists already; --force replaces it");
-        remove(rt, part);
-        return 2;
-    }
-    if let Err(error) = rename(rt, part, new) {
-        let failed = say::failed(rt, new, error);
-        remove(rt, part);
-        return failed;
-    }
-    status
-}
-
-// Closes a file, as each is closed where it is let go.
-fn close(_file: File) {}
-
-// Takes away what was written so far.
-pub fn drop(rt: &HostRuntime, file: File, part: &[u8]) {
-    close(file);
-    remove(rt, part);
 }

@@ -3,72 +3,62 @@ use crate::say;
 use std::io::IsTerminal;
 use std::time::Clock as SystemClock;
 
-// The second in which the work was last looked at, and how much was told: nothing yet; nothing, but a second has begun since; or something,
-// which has to be taken away in the end.
+// How much was told: nothing yet; nothing, but a second has begun since; or something, which has to be taken away in the end.
+#[derive(Clone, Copy, Debug, PartialEq, Eq)]
+enum Progress {
+    Begun,
+    Due,
+    Told,
+}
+
+// The second in which the work was last looked at, and how much was told. It is quiet where rows that are not done yet stand on the same
+// terminal.
 #[derive(Clone, Copy)]
 pub struct Clock {
-    pub second: i64,
-    pub told: u8,
-    pub quiet: bool,
+    second: u64,
+    progress: Progress,
+    is_quiet: bool,
 }
 
 // The time, in seconds; 0 where the system does not tell it.
-fn now(rt: &HostRuntime) -> i64 {
-    match rt.since_1970() {
-        Ok(time) => i64::try_from(time.as_secs()).unwrap_or(0),
-        Err(_) => 0,
-    }
+fn now(rt: &HostRuntime) -> u64 {
+    rt.since_1970().map_or(0, |time| time.as_secs())
 }
 
-// A clock for work that begins. It is quiet where rows that are not done yet stand on the same terminal.
-pub fn begun(rt: &HostRuntime, by_rows: bool) -> Clock {
-    let mut quiet = false;
-    if by_rows && rt.stdout().is_terminal() {
-        quiet = true;
+impl Clock {
+    // A clock for work that begins, which leaves rows that are not done yet, or does not.
+    pub fn begun(rt: &HostRuntime, by_rows: bool) -> Clock {
+        let is_quiet = by_rows && rt.stdout().is_terminal();
+        Clock {
+            second: now(rt),
+            progress: Progress::Begun,
+            is_quiet,
+        }
     }
-    Clock {
-        second: now(rt),
-        told: 0,
-        quiet,
-    }
-}
 
-// Tells how much is done, when another second has begun and a whole one has gone by.
-pub fn tell(rt: &HostRuntime, clock: Clock, tiles: usize, bytes: usize) -> Clock {
-    let second = now(rt);
-    let quiet = clock.quiet;
-    if second == clock.second {
-        return clock;
+    // Tells how much is done, when another second has begun and a whole one has gone by.
+    pub fn tell(&mut self, rt: &HostRuntime, tiles: usize, bytes: usize) {
+        let second = now(rt);
+        if second == self.second {
+            return;
+        }
+        self.second = second;
+        if self.progress == Progress::Begun || self.is_quiet || !rt.stderr().is_terminal() {
+            self.progress = Progress::Due;
+            return;
+        }
+        say::words(rt, b"\r\x1b[Kcounterfrost: ");
+        say::number(rt, tiles);
+        say::words(rt, b" tiles, ");
+        say::number(rt, bytes);
+        say::words(rt, b" bytes");
+        self.progress = Progress::Told;
     }
-    if clock.told == 0 {
-        return Clock {
-            second,
-            told: 1,
-            quiet,
-        };
-    }
-    if quiet || !rt.stderr().is_terminal() {
-        return Clock {
-            second,
-            told: 1,
-            quiet,
-        };
-    }
-    say::words(rt, b"\r\x1b[Kcounterfrost: ");
-    say::number(rt, tiles);
-    say::words(rt, b" tiles, ");
-    say::number(rt, bytes);
-    say::words(rt, b" bytes");
-    Clock {
-        second,
-        told: 2,
-        quiet,
-    }
-}
 
-// Takes away what was told.
-pub fn clear(rt: &HostRuntime, clock: Clock) {
-    if clock.told == 2 {
-        say::words(rt, b"\r\x1b[K");
+    // Takes away what was told.
+    pub fn clear(&self, rt: &HostRuntime) {
+        if self.progress == Progress::Told {
+            say::words(rt, b"\r\x1b[K");
+        }
     }
 }

@@ -1,8 +1,7 @@
 // What is said on standard error. Every line begins with the command's name. Where it cannot be written either, nobody is left to tell.
 ghost use Rattle.io.specs.Counts.{IsPrefixLen};
-ghost use Rattle.std.specs.Prelude.{◌≡◌, pos};
-ghost use Rattle.files.specs.Exit.{Exit};
 
+use crate::told::Told;
 use lettering::line;
 use std::fmt::InlineText;
 use std::io::Error;
@@ -17,41 +16,43 @@ pub fn name(rt: &HostRuntime) {
     words(rt, b"counterfrost: ");
 }
 
-// A whole line.
-pub fn line(rt: &HostRuntime, said: &[u8]) {
+// A whole line on what is wrong.
+pub fn line(rt: &HostRuntime, said: &[u8]) -> Told {
     name(rt);
     words(rt, said);
     words(rt, b"\n");
+    Told
 }
 
-// A line about a word or a file.
-pub fn about(rt: &HostRuntime, what: &[u8], said: &[u8]) {
+// A line on what is wrong with a word or a file.
+pub fn about(rt: &HostRuntime, what: &[u8], said: &[u8]) -> Told {
     name(rt);
     words(rt, what);
     words(rt, said);
     words(rt, b"\n");
+    Told
 }
 
-// Why the system refused, in its own words. It answers the status for that.
-pub fn failed(rt: &HostRuntime, what: &[u8], error: Error) -> i32
-    ensures exit { Exit result }
-    ensures value { result ≡ pos 2 }
-{
+// Why the system refused, in its own words.
+pub fn failed(rt: &HostRuntime, what: &[u8], error: Error) -> Told {
     let said = InlineText::<256>::of(error);
     name(rt);
     words(rt, what);
     words(rt, b": ");
     words(rt, own_words(said.as_str()).as_bytes());
     words(rt, b"\n");
-    2
+    Told
+}
+
+// Why the output could not be written.
+pub fn output_failed(rt: &HostRuntime, error: Error) -> Told {
+    failed(rt, b"standard output", error)
 }
 
 // The system's own words for an error: without the error's number, which stands behind them.
 fn own_words(said: &str) -> &str {
-    match said.split_once(" (os error ") {
-        Some((words, _)) => words,
-        None => said,
-    }
+    said.split_once(" (os error ")
+        .map_or(said, |(words, _)| words)
 }
 
 // A number, on standard error.
@@ -63,22 +64,29 @@ pub fn number(rt: &HostRuntime, n: usize) {
 
 // A line of a listing, behind the command's name.
 pub fn listed(rt: &HostRuntime, line: line::Line) {
-    let bytes = line.bytes;
-    let n = at_most(line.length, &bytes);
     name(rt);
-    words(rt, &bytes[..n]);
+    words(rt, line.text());
 }
 
-// A line of a listing, on standard output.
-pub fn print(rt: &HostRuntime, line: line::Line) -> Result<(), Error> {
-    let bytes = line.bytes;
-    let n = at_most(line.length, &bytes);
-    rt.stdout().write_all(&bytes[..n])
+// Prints a line of a listing, or says that it could not be written.
+pub fn print_line(rt: &HostRuntime, line: line::Line) -> Result<(), Told> {
+    arrived(rt, rt.stdout().write_all(line.text()))
+}
+
+// Prints the first bytes of a page, or says that they could not be written.
+pub fn print(rt: &HostRuntime, page: &[u8], used: usize) -> Result<(), Told> {
+    let n = at_most(used, page);
+    arrived(rt, rt.stdout().write_all(&page[..n]))
+}
+
+// Says whether the output arrived.
+pub fn arrived(rt: &HostRuntime, written: Result<(), Error>) -> Result<(), Told> {
+    written.map_err(|error| output_failed(rt, error))
 }
 
 // A count that lies within the bytes.
 pub fn at_most(n: usize, all: &[u8]) -> usize
     ensures { IsPrefixLen result all.now }
 {
-    if n <= all.len() { n } else { all.len() }
+    n.min(all.len())
 }

@@ -6,33 +6,30 @@ ghost use Rattle.promise.specs.Calls.{FillTold};
 
 use cells::change::add_line;
 use chain::filling;
-use classes::Fillings;
+use code::lattice::Lattice;
 use code::{Kind, Line};
-use promise::{Outcome, has_both, judge_tile};
-use size::{Judgement, Refusal};
+use promise::{has_both, judge_tile};
+use size::Refusal;
 
 // Fills one or two flagged lines, whatever bytes they hold. One line is named twice.
-pub fn fill(kind: Kind, p: usize, l: usize, tile: &mut [u8], first: Line, second: Line) -> Outcome
+pub fn fill(
+    kind: Kind,
+    p: usize,
+    l: usize,
+    tile: &mut [u8],
+    first: Line,
+    second: Line,
+) -> Result<(), Refusal>
     ensures { FillTold kind p l tile.old first second (outcome_said result) tile.new }
 {
-    match judge_tile(kind, p, l, tile.len()) {
-        Judgement::Refused(refusal) => Outcome::Refused(refusal),
-        Judgement::Taken => {
-            if has_both(p, first, second) {
-                let mut x = [0u8; 257];
-                let mut y = [0u8; 257];
-                match filling::solve(kind, p, l, tile, first, second, &mut x, &mut y) {
-                    Fillings::None => Outcome::Refused(Refusal::Damaged),
-                    Fillings::Several => Outcome::Refused(Refusal::Doubtful),
-                    Fillings::One => {
-                        add_line(p, first, &x, tile);
-                        add_line(p, second, &y, tile);
-                        Outcome::Done
-                    }
-                }
-            } else {
-                Outcome::Refused(Refusal::BadPlace)
-            }
-        }
+    judge_tile(kind, p, l, tile.len())?;
+    if !has_both(p, first, second) {
+        return Err(Refusal::BadPlace);
     }
+    let mut x = [0u8; 257];
+    let mut y = [0u8; 257];
+    filling::solve(kind, Lattice { p, l }, tile, first, second, &mut x, &mut y)?;
+    add_line(p, first, &x, tile);
+    add_line(p, second, &y, tile);
+    Ok(())
 }

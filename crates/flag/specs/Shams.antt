@@ -1,12 +1,11 @@
 -- Wrong programs, each broken by a theorem: no such program meets its contract. Assumes nothing.
-use Rattle.std.specs.Prelude.{◌≡◌, ℕ}
+use Rattle.std.specs.Prelude.{◌≡◌, ℕ, Some, None}
 use Rattle.std.proofs.Common.{arith}
 use Rattle.code.specs.declared.Line.TheVariants.{Column}
 use Rattle.flag.specs.Flag.{line_of, flag_of}
-use Rattle.flag.specs.declared.Flag.TheVariants.{None, Lost}
 
 -- a flag that takes FFFF hex for a column
-pub none_as_column : Lost (Column 0x7FFF) ≡ flag_of 0xFFFF → ⊥
+pub none_as_column : Some (Column 0x7FFF) ≡ flag_of 0xFFFF → ⊥
 unfolding flag_of line_of
 none_as_column e = let z : ◌≡◌ {A = ℕ} 0 1 = cc in omega arith
 

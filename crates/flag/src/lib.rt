@@ -1,17 +1,11 @@
-// A line by its number, and a flag: a line that the scanner lost, or none. On a reel and in C both stand as numbers.
+// A line by its number, and a flag: a line that the scanner lost, or none. On a reel and in C both stand as numbers; here a flag is an
+// `Option<Line>`.
 #![tactic(auto)]
 
-ghost use Rattle.std.specs.Prelude.{◌≡◌};
+ghost use Rattle.std.specs.Prelude.{◌≡◌, Some};
 ghost use Rattle.flag.specs.Flag.{line_of, flag_of, flag_number, Short};
 
 use code::Line;
-
-// What a flag says: no line, or the one that was lost.
-#[derive(Clone, Copy)]
-pub enum Flag {
-    None,
-    Lost(Line),
-}
 
 // The number that stands for no line.
 const NONE: usize = 0xFFFF;
@@ -32,30 +26,28 @@ pub fn line(n: usize) -> Line
 }
 
 // What the flag with a number says.
-pub fn read(n: usize) -> Flag
+#[tactic(auto, using(crate::specs::Back::flag_none, crate::specs::Back::flag_lost))]
+pub fn read(n: usize) -> Option<Line>
     ensures { result ≡ flag_of n }
 {
-    if n == NONE {
-        return Flag::None;
-    }
-    Flag::Lost(line(n))
+    if n == NONE { None } else { Some(line(n)) }
 }
 
 // The number of a flag.
-pub fn number(flag: Flag) -> usize
+pub fn number(flag: Option<Line>) -> usize
     requires { Short flag }
     ensures { result ≡ flag_number flag }
 {
     match flag {
-        Flag::None => NONE,
-        Flag::Lost(line) => line_number(line),
+        None => NONE,
+        Some(line) => line_number(line),
     }
 }
 
 // The number of a line.
 fn line_number(line: Line) -> usize
-    requires { Short (Flag.Lost line) }
-    ensures { result ≡ flag_number (Flag.Lost line) }
+    requires { Short (Some line) }
+    ensures { result ≡ flag_number (Some line) }
 {
     match line {
         Line::Row(r) => r,

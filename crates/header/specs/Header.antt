@@ -1,18 +1,14 @@
 -- WHAT A READER MUST BELIEVE: what stands before a tile's bytes in each of the three records (SPEC 7.1). Assumes nothing.
-use Rattle.std.specs.Prelude.{◌≡◌, List, ℕ, ◌+◌, ◌≤◌, length, get_or}
+use Rattle.std.specs.Prelude.{◌≡◌, List, ℕ, ◌+◌, ◌≤◌, length, get_or, Option, Some, None}
 use Rattle.code.specs.declared.Kind.{Kind}
 use Rattle.code.specs.declared.Kind.TheVariants as kind
 use Rattle.code.specs.declared.Line.{Line}
 use Rattle.record.specs.Number.{big_endian, big_endian_long}
 use Rattle.flag.specs.Flag.{flag_of}
-use Rattle.flag.specs.declared.Flag.{Flag}
-use Rattle.flag.specs.declared.Flag.TheVariants.{None, Lost}
 use Rattle.promise.specs.Calls.{Has}
 use Rattle.header.specs.declared.Mark.{Mark}
 use Rattle.header.specs.declared.Mark.TheVariants.{Plain, Flagged, Old}
 use Rattle.header.specs.declared.Header.{Header}
-use Rattle.header.specs.declared.Start.{Start}
-use Rattle.header.specs.declared.Start.TheVariants.{With, Other}
 
 -- SPEC 7.1: the n-th byte of the record at a place
 abbrev pub byte_of : List ℕ → ℕ → ℕ → ℕ
@@ -46,15 +42,15 @@ abbrev pub number_of : List ℕ → ℕ → ℕ
 number_of reel at = big_endian_long (byte_of reel at 6) (byte_of reel at 7) (byte_of reel at 8) (byte_of reel at 9)
 
 -- SPEC 7.1 and FORMATS: a flag, in two bytes from the n-th on; a record without flags has none
-abbrev pub flag_at : Mark → List ℕ → ℕ → ℕ → Flag
+abbrev pub flag_at : Mark → List ℕ → ℕ → ℕ → Option Line
 flag_at Plain reel at n = None
 flag_at Flagged reel at n = flag_of (big_endian (byte_of reel at n) (byte_of reel at (n + 1)))
 flag_at Old reel at n = None
 
--- SPEC 7.2: what the record at a place begins with: a mark, or something else
-abbrev pub StartIs : List ℕ → ℕ → Start → Type 0
-StartIs reel at (With m) = Marked m reel at
-StartIs reel at Other = (m : Mark) → Marked m reel at → ⊥
+-- SPEC 7.2: the mark that the record at a place begins with, if it begins with one
+abbrev pub StartIs : List ℕ → ℕ → Option Mark → Type 0
+StartIs reel at (Some m) = Marked m reel at
+StartIs reel at None = (m : Mark) → Marked m reel at → ⊥
 
 -- SPEC 7.1: a whole header stands at a place, and this is what it says
 pub record HeaderAt (reel : List ℕ) (at : ℕ) (h : Header) : Type 0 where
@@ -72,9 +68,9 @@ LineCarried Plain p a = ⊥
 LineCarried Flagged p a = Has p a
 LineCarried Old p a = ⊥
 
-abbrev pub Carried : Mark → ℕ → Flag → Type 0
+abbrev pub Carried : Mark → ℕ → Option Line → Type 0
 Carried m p None = Unit {0}
-Carried m p (Lost a) = LineCarried m p a
+Carried m p (Some a) = LineCarried m p a
 
 abbrev pub Carries : Header → Type 0
 Carries h = Carried h.mark h.p h.first × Carried h.mark h.p h.second

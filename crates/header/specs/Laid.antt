@@ -1,14 +1,13 @@
 -- A header as its bytes, and the record that is put together of them: it is the record of its tile, no other is, and it is of bytes.
 -- Assumes nothing.
-use Rattle.std.specs.Prelude.{◌≡◌, refl, List, [], ◌∷◌, ◌++◌, ℕ, zero, suc, ◌+◌, ◌/◌, ◌%◌, ◌≤◌, ◌<◌, length, get_or, take, drop}
+use Rattle.std.specs.Prelude.{◌≡◌, refl, List, [], ◌∷◌, ◌++◌, ℕ, zero, suc, ◌+◌, ◌/◌, ◌%◌, ◌≤◌, ◌<◌, length, get_or, take, drop, Option, Some, None}
 use Rattle.std.proofs.Common.{sym, ap, ap₂, ◌∙◌, arith, length-append, take-append-drop, length-take-le, get_or-take, drop_at, drop-cons}
 use Rattle.std.proofs.Math.ListN.{get_or-append}
+use Rattle.code.specs.declared.Line.{Line}
 use Rattle.code.specs.Kind.{taken_slope}
 use Rattle.code.specs.Tile.{Bytes}
 use Rattle.flag.specs.Flag.{flag_number, flag_of, Short}
 use Rattle.flag.specs.Back.{flag_back, number_back, number_fits}
-use Rattle.flag.specs.declared.Flag.{Flag}
-use Rattle.flag.specs.declared.Flag.TheVariants.{None, Lost}
 use Rattle.record.specs.Number.{big_endian}
 use Rattle.header.specs.Header.{byte_of, Marked, kind_of, header_length, flag_at, Carried}
 use Rattle.header.specs.Record.{Fit, RecordOf}
@@ -75,11 +74,11 @@ made h tile = front h ++ tile
 -- ---- what may be laid
 
 -- a flag that a record may carry has a short number, since no tile has many lines
-pub carried_short : (m : Mark) (p : ℕ) (f : Flag) → p ≤ 257 → Carried m p f → Short f
+pub carried_short : (m : Mark) (p : ℕ) (f : Option Line) → p ≤ 257 → Carried m p f → Short f
 carried_short m p None h c = tt
-carried_short Plain p (Lost a) h c = absurd c
-carried_short Flagged p (Lost a) h c = omega arith
-carried_short Old p (Lost a) h c = absurd c
+carried_short Plain p (Some a) h c = absurd c
+carried_short Flagged p (Some a) h c = omega arith
+carried_short Old p (Some a) h c = absurd c
 
 -- so what may be laid fits its places
 pub fit_fits : {h : Header} {tile : List ℕ} → Fit h tile → Fits h
@@ -137,14 +136,14 @@ number_mark Plain xs a b = (a, b)
 number_mark Flagged xs a b = (a, b)
 number_mark Old xs a b = (a, b)
 
-number_flag : (m : Mark) (p : ℕ) (f : Flag) (xs : List ℕ) (n : ℕ) → Carried m p f → Short f → n + 1 < 14
+number_flag : (m : Mark) (p : ℕ) (f : Option Line) (xs : List ℕ) (n : ℕ) → Carried m p f → Short f → n + 1 < 14
     → (n < header_length m → byte_of xs 0 n ≡ flag_number f / 256) → (n + 1 < header_length m → byte_of xs 0 (n + 1) ≡ flag_number f % 256)
     → f ≡ flag_at m xs 0 n
 number_flag Plain p None xs n c s within high low = refl
-number_flag Plain p (Lost a) xs n c s within high low = absurd c
+number_flag Plain p (Some a) xs n c s within high low = absurd c
 number_flag Flagged p f xs n c s within high low = sym (flag_back f s) ∙ ap flag_of (omega (arith, high (omega arith), low (omega arith)))
 number_flag Old p None xs n c s within high low = refl
-number_flag Old p (Lost a) xs n c s within high low = absurd c
+number_flag Old p (Some a) xs n c s within high low = absurd c
 
 module _ (h : Header) (tile : List ℕ) where
   -- before the tile's bytes stand those of the header, ten at least
@@ -196,7 +195,7 @@ mark_number_lem Plain xs a = a
 mark_number_lem Flagged xs a = a
 mark_number_lem Old xs a = a
 
-flag_number_lem : (f : Flag) (xs : List ℕ) (n : ℕ) → f ≡ flag_at Flagged xs 0 n → flag_number f ≡ big_endian (byte_of xs 0 n) (byte_of xs 0 (n + 1))
+flag_number_lem : (f : Option Line) (xs : List ℕ) (n : ℕ) → f ≡ flag_at Flagged xs 0 n → flag_number f ≡ big_endian (byte_of xs 0 n) (byte_of xs 0 (n + 1))
 flag_number_lem f xs n e = ap flag_number e ∙ number_back (big_endian (byte_of xs 0 n) (byte_of xs 0 (n + 1)))
 
 module _ {h : Header} {tile bytes : List ℕ} (of : RecordOf h tile bytes) where

@@ -1,6 +1,6 @@
 -- WHAT A READER MUST BELIEVE: the house slope of a size, the rule of a table of house slopes, and what is told of a number that is looked
 -- up in it (SPEC 2.3). Assumes nothing.
-use Rattle.std.specs.Prelude.{◌≡◌, List, ℕ, ◌<◌, length, get_or}
+use Rattle.std.specs.Prelude.{◌≡◌, List, ℕ, ◌<◌, length, get_or, Option, Some, None}
 use Rattle.residue.specs.Size.{Size, Allowed}
 
 -- SPEC 2.3: the house slope of p is allowed there, and no lesser slope is
@@ -22,7 +22,7 @@ pub record HouseTable (sizes slopes : List ℕ) : Type 0 where
   pub each : (k : ℕ) → k < length sizes → HouseEntry (entry_at sizes k) (entry_at slopes k)
   pub every : (p : ℕ) → ((k : ℕ) → k < length sizes → entry_at sizes k ≡ p → ⊥) → Size p → ⊥
 
--- SPEC 2.3: what is told of p: its house slope where it is a size, and 0 where it is none
-pub data SlopeTold (p : ℕ) : ℕ → Type 0 where
-  no_size : (Size p → ⊥) → SlopeTold p 0
-  of_size : {l : ℕ} → Size p → HouseSlope p l → SlopeTold p l
+-- SPEC 2.3: what is told of p: its house slope where it is a size, and nothing where it is none
+pub data SlopeTold (p : ℕ) : Option ℕ → Type 0 where
+  no_size : (Size p → ⊥) → SlopeTold p None
+  of_size : {l : ℕ} → Size p → HouseSlope p l → SlopeTold p (Some l)

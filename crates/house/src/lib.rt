@@ -3,33 +3,67 @@
 
 ghost use Rattle.house.specs.House.{SlopeTold};
 
-// Every size, in rising order ..
-const SIZES: [usize; 53] = [
-    5, 7, 11, 13, 17, 19, 23, 29, 31, 37, 41, 43, 47, 53, 59, 61, 67, 71, 73, 79, 83, 89, 97, 101,
-    103, 107, 109, 113, 127, 131, 137, 139, 149, 151, 157, 163, 167, 173, 179, 181, 191, 193, 197,
-    199, 211, 223, 227, 229, 233, 239, 241, 251, 257,
+// Every size, in rising order, and beside each its house slope: the smallest slope that it allows.
+static TABLE: [(usize, usize); 53] = [
+    (5, 2),
+    (7, 3),
+    (11, 2),
+    (13, 2),
+    (17, 3),
+    (19, 2),
+    (23, 5),
+    (29, 2),
+    (31, 3),
+    (37, 2),
+    (41, 6),
+    (43, 3),
+    (47, 5),
+    (53, 2),
+    (59, 2),
+    (61, 2),
+    (67, 2),
+    (71, 7),
+    (73, 5),
+    (79, 3),
+    (83, 2),
+    (89, 3),
+    (97, 5),
+    (101, 2),
+    (103, 5),
+    (107, 2),
+    (109, 6),
+    (113, 3),
+    (127, 3),
+    (131, 2),
+    (137, 3),
+    (139, 2),
+    (149, 2),
+    (151, 6),
+    (157, 5),
+    (163, 2),
+    (167, 5),
+    (173, 2),
+    (179, 2),
+    (181, 2),
+    (191, 19),
+    (193, 5),
+    (197, 2),
+    (199, 3),
+    (211, 2),
+    (223, 3),
+    (227, 2),
+    (229, 6),
+    (233, 3),
+    (239, 7),
+    (241, 7),
+    (251, 6),
+    (257, 3),
 ];
 
-// .. and for each, at the same place, its house slope: the smallest slope that it allows.
-const SLOPES: [usize; 53] = [
-    2, 3, 2, 2, 3, 2, 5, 2, 3, 2, 6, 3, 5, 2, 2, 2, 2, 7, 5, 3, 2, 3, 5, 2, 5, 2, 6, 3, 3, 2, 3, 2,
-    2, 6, 5, 2, 5, 2, 2, 2, 19, // of 191
-    5, 2, 3, 2, 3, 2, 6, 3, 7, 7, 6, 3,
-];
-
-// The house slope of p; 0 where p is no size. (The loop compares and does nothing else, so that the compiler looks the answer up in its own
-// constants, and puts no copy of the table on the stack.)
-pub fn slope(p: usize) -> usize
+// The house slope of p, where p is a size.
+pub fn slope(p: usize) -> Option<usize>
     ensures { SlopeTold p result }
 {
-    let sizes = SIZES;
-    let slopes = SLOPES;
-    let mut i = 0;
-    while i < 53 {
-        if sizes[i] == p {
-            return slopes[i];
-        }
-        i += 1;
-    }
-    0
+    let (_, slope) = TABLE.iter().find(|(size, _)| *size == p)?;
+    Some(*slope)
 }

@@ -12,43 +12,42 @@ ghost use Rattle.promise.specs.Calls.{Admitted, JudgeTold};
 
 use crate::outside::agree_outside;
 use code::{Kind, Line};
-use promise::{Outcome, has_both, judge_tile};
-use size::{Judgement, Refusal};
+use promise::{has_both, judge_tile};
+use size::Refusal;
 use walk::sums::is_good;
 
 // Judges the size, the slope and the lengths of both tiles: refusals 1, 2 and 3, in that order. The tiles are taken for new ones.
-fn judge_lengths(p: usize, l: usize, scan: usize, restored: usize) -> Judgement
+fn judge_lengths(p: usize, l: usize, scan: usize, restored: usize) -> Result<(), Refusal>
     ensures { Admitted New p l ((scan ≡ tile_length p) × (restored ≡ tile_length p)) (judgement_said result) }
 {
-    match judge_tile(Kind::New, p, l, scan) {
-        Judgement::Refused(refusal) => Judgement::Refused(refusal),
-        Judgement::Taken => {
-            if restored == scan {
-                Judgement::Taken
-            } else {
-                Judgement::Refused(Refusal::BadLength)
-            }
-        }
+    judge_tile(Kind::New, p, l, scan)?;
+    if restored == scan {
+        Ok(())
+    } else {
+        Err(Refusal::BadLength)
     }
 }
 
-// Says Done of a restored tile that is good and differs from the scan on the named lines alone. To name one line, name it twice.
-pub fn judge(p: usize, l: usize, scan: &[u8], restored: &[u8], first: Line, second: Line) -> Outcome
+// Accepts a restored tile that is good and differs from the scan on the named lines alone. To name one line, name it twice.
+pub fn judge(
+    p: usize,
+    l: usize,
+    scan: &[u8],
+    restored: &[u8],
+    first: Line,
+    second: Line,
+) -> Result<(), Refusal>
     ensures { JudgeTold p l scan.now restored.now first second (outcome_said result) }
 {
-    match judge_lengths(p, l, scan.len(), restored.len()) {
-        Judgement::Refused(refusal) => Outcome::Refused(refusal),
-        Judgement::Taken => {
-            if !has_both(p, first, second) {
-                return Outcome::Refused(Refusal::BadPlace);
-            }
-            if !is_good(p, l, restored) {
-                return Outcome::Refused(Refusal::NotGood);
-            }
-            if !agree_outside(p, scan, restored, first, second) {
-                return Outcome::Refused(Refusal::DiffersElsewhere);
-            }
-            Outcome::Done
-        }
+    judge_lengths(p, l, scan.len(), restored.len())?;
+    if !has_both(p, first, second) {
+        return Err(Refusal::BadPlace);
     }
+    if !is_good(p, l, restored) {
+        return Err(Refusal::NotGood);
+    }
+    if !agree_outside(p, scan, restored, first, second) {
+        return Err(Refusal::DiffersElsewhere);
+    }
+    Ok(())
 }

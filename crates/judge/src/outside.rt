@@ -19,14 +19,10 @@ pub(crate) fn agree_outside(
 {
     let mut marks = [0u8; 257];
     mark_columns(p, scan, restored, first, second, &mut marks);
-    let mut j = 0;
-    while j < p - 1 {
-        if marks[j] != 0 {
-            if !is_one_of(Line::Column(j), first, second) {
-                return false;
-            }
+    for j in 0..p - 1 {
+        if marks[j] != 0 && !is_one_of(Line::Column(j), first, second) {
+            return false;
         }
-        j += 1;
     }
     true
 }
@@ -45,22 +41,19 @@ fn mark_columns(
     ensures { RowsMarked p scan.now restored.now first second (p - 1) marks.new }
 {
     *marks = [0u8; 257];
-    let mut i = 0;
-    while i < p - 1 {
+    for i in 0..p - 1 {
         if !is_one_of(Line::Row(i), first, second) {
             mark_row(scan, restored, i * (p - 1), p - 1, marks);
         }
-        i += 1;
     }
 }
 
 // Marks the places at which a run of `count` bytes, which begins at `start` in both tiles, differs.
 fn mark_row(scan: &[u8], restored: &[u8], start: usize, count: usize, marks: &mut [u8; 257])
-    requires { (start + count ≤ length scan.now) × (start + count ≤ length restored.now) × (count ≤ 257) × (length marks.old ≡ 257) }
+    requires { (start + count ≤ length scan.now) × (start + count ≤ length restored.now) × (count ≤ 257) }
     ensures { RowMarked scan.now restored.now start count marks.old marks.new }
 {
-    let mut k = 0;
-    while k < count {
+    for k in 0..count {
         // a mark is loaded and stored at every place, so that this compiles to wide steps
         let mark = marks[k];
         marks[k] = if scan[start + k] == restored[start + k] {
@@ -68,7 +61,6 @@ fn mark_row(scan: &[u8], restored: &[u8], start: usize, count: usize, marks: &mu
         } else {
             1
         };
-        k += 1;
     }
 }
 
@@ -76,25 +68,5 @@ fn mark_row(scan: &[u8], restored: &[u8], start: usize, count: usize, marks: &mu
 fn is_one_of(line: Line, first: Line, second: Line) -> bool
     ensures { Says result (OneOf line first second) }
 {
-    if is_same(line, first) {
-        true
-    } else {
-        is_same(line, second)
-    }
-}
-
-// Are two lines the same?
-fn is_same(one: Line, other: Line) -> bool
-    ensures { Says result (one ≡ other) }
-{
-    match one {
-        Line::Row(r) => match other {
-            Line::Row(s) => r == s,
-            Line::Column(_) => false,
-        },
-        Line::Column(c) => match other {
-            Line::Row(_) => false,
-            Line::Column(d) => c == d,
-        },
-    }
+    line == first || line == second
 }

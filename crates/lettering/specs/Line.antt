@@ -1,5 +1,5 @@
 -- WHAT A READER MUST BELIEVE: the lines of a listing, byte by byte (SPEC 8.1). Assumes nothing.
-use Rattle.std.specs.Prelude.{◌≡◌, true, false, List, [], ◌∷◌, ◌++◌, ℕ, zero, suc, ◌+◌, ◌/◌, ◌%◌, ◌≤◌, ltb, length, take}
+use Rattle.std.specs.Prelude.{true, false, List, [], ◌∷◌, ◌++◌, ℕ, zero, suc, ◌+◌, ◌/◌, ◌%◌, ltb}
 use Prim.Native.Char.{code}
 use Prim.Native.String.{String}
 use Prim.Native.String as string
@@ -54,10 +54,3 @@ end_line count = ascii "end" ++ space ++ decimal count ++ lf
 -- SPEC 8.1: the line that closes a walk which came to a refusal: its number and its offset
 unfoldable pub stopped_line : ℕ → ℕ → List ℕ
 stopped_line n offset = ascii "stopped" ++ space ++ decimal n ++ space ++ decimal offset ++ lf
-
--- ---- a line in memory
-
--- SPEC 8.1: a line of the code holds a text: it is its first bytes
-pub record Holds (bytes : List ℕ) (count : ℕ) (text : List ℕ) : Type 0 where
-  pub within : count ≤ length bytes
-  pub is : take count bytes ≡ text

@@ -1,107 +1,134 @@
 // The lines of a listing: that of a tile, and the closing ones.
-ghost use Rattle.std.specs.Prelude.{◌≡◌, ◌++◌, [], ◌∷◌, ◌+◌, ◌≤◌, length, take};
+ghost use Rattle.std.specs.Prelude.{◌≡◌, List, ℕ, ◌++◌, [], ◌∷◌, ◌+◌, ◌≤◌, length, take};
 ghost use Rattle.size.specs.Refusal.{number_of};
-ghost use Rattle.promise.specs.Answer.{restore_said};
-ghost use Rattle.lettering.specs.Line.{Holds, lf, decimal, state_text, tile_line, end_line, stopped_line};
+ghost use Rattle.promise.specs.Answer.{repaired_said, restore_said};
+ghost use Rattle.lettering.specs.Line.{lf, decimal, state_text, tile_line, end_line, stopped_line};
 
-use crate::bytes;
-use promise::Restored;
+use promise::{Repaired, Restored};
 use size::Refusal;
+use std::marker::Model;
 
-// A line: the first `length` of its bytes. There is room for every line: five numbers of at most 20 digits, the word `cell`, the spaces
-// between them and the LF make 110 bytes.
-#[derive(Clone, Copy)]
+// The most bytes that a line has: five numbers of at most 20 digits, the word `cell`, the spaces between them and the LF make 110.
+const MOST: usize = 112;
+
+// A line: the first `length` of its bytes.
+#[derive(Clone, Drop)]
 pub struct Line {
-    pub bytes: [u8; 112],
-    pub length: usize,
+    bytes: [u8; MOST],
+    length: usize,
 }
 
-// A line with nothing on it yet.
-fn nothing() -> Line
-    ensures holds { Holds result.bytes result.length [] }
-    ensures length_value { result.length ≡ 0 }
-{
-    Line {
-        bytes: [0u8; 112],
-        length: 0,
+impl Model for Line {
+    ghost Value = { List ℕ };
+
+    ghost view = { λ line. take line.length line.bytes };
+
+    ghost invariant = { λ line. line.length ≤ 112 };
+}
+
+impl Line {
+    // A line with nothing on it yet.
+    fn new() -> Line
+        ensures { result ≡ [] }
+    {
+        Line {
+            bytes: [0u8; MOST],
+            length: 0,
+        }
     }
-}
 
-// The line with words behind what it has.
-fn with_words(line: Line, words: &[u8]) -> Line
-    requires { line.length + length words.now ≤ 112 }
-    ensures holds { Holds result.bytes result.length (take line.length line.bytes ++ words.now) }
-    ensures length_value { result.length ≡ line.length + length words.now }
-{
-    let start = line.length;
-    let mut bytes = line.bytes;
-    bytes::copy(words, &mut bytes, start);
-    Line {
-        bytes,
-        length: start + words.len(),
+    // The text that it has.
+    pub fn text(&self) -> &[u8]
+        ensures text { result.now ≡ self.now }
+        ensures upper_bound { length result.now ≤ 112 }
+    {
+        &self.bytes[..self.length]
     }
-}
 
-// The line with a number behind what it has, and then a sign: a space, or the LF.
-fn with_number(line: Line, n: usize, sign: u8) -> Line
-    requires { line.length + 21 ≤ 112 }
-    ensures holds { Holds result.bytes result.length (take line.length line.bytes ++ decimal n ++ (sign ∷ [])) }
-    ensures length_bound { result.length ≤ line.length + 21 }
-{
-    let mut digits = [0u8; 20];
-    let count = io::decimal(n as u64, &mut digits);
-    let end = [sign];
-    with_words(with_words(line, &digits[..count]), &end)
-}
+    // The line with words behind what it has.
+    fn with_words(mut self, words: &[u8]) -> Line
+        requires { length self + length words.now ≤ 112 }
+        ensures { result ≡ self ++ words.now }
+    {
+        let start = self.length;
+        let end = start + words.len();
+        self.bytes[start..end].copy_from_slice(words);
+        self.length = end;
+        self
+    }
 
-// The line with what comes of restoring a tile behind what it has, and the LF.
-fn with_state(line: Line, state: Restored) -> Line
-    requires { line.length ≤ 63 }
-    ensures { Holds result.bytes result.length (take line.length line.bytes ++ state_text (restore_said state) ++ lf) }
-{
-    match state {
-        Restored::Clean => with_words(line, b"clean\n"),
-        Restored::Cell(r, c) => with_number(
-            with_number(with_words(line, b"cell "), r, b' '),
-            c,
-            b'\n',
-        ),
-        Restored::Column(c) => with_number(with_words(line, b"column "), c, b'\n'),
-        Restored::Row(r) => with_number(with_words(line, b"row "), r, b'\n'),
-        Restored::Filled => with_words(line, b"filled\n"),
-        Restored::Refused(no) => with_number(
-            with_words(line, b"refused "),
-            size::number(no),
-            b'\n',
-        ),
+    // The line with a number behind what it has, and then a sign: a space, or the LF. A `write!` would answer an error where there is no
+    // room: here the contract says that there is.
+    fn with_number(self, n: usize, sign: u8) -> Line
+        requires { length self + 21 ≤ 112 }
+        ensures is { result ≡ self ++ decimal n ++ (sign ∷ []) }
+        ensures length_bound { length result ≤ length self + 21 }
+    {
+        let mut digits = [0u8; 20];
+        let count = io::decimal(n as u64, &mut digits);
+        self.with_words(&digits[..count]).with_words(&[sign])
+    }
+
+    // The line with what was found in a tile behind what it has, and the LF.
+    #[tactic(auto, unfolding(crate::specs::Line::state_text))]
+    fn with_found(self, found: Repaired) -> Line
+        requires { length self ≤ 63 }
+        ensures { result ≡ self ++ state_text (repaired_said found) ++ lf }
+    {
+        match found {
+            Repaired::Clean => self.with_words(b"clean\n"),
+            Repaired::Cell(r, c) => self
+                .with_words(b"cell ")
+                .with_number(r, b' ')
+                .with_number(c, b'\n'),
+            Repaired::Column(c) => self.with_words(b"column ").with_number(c, b'\n'),
+            Repaired::Row(r) => self.with_words(b"row ").with_number(r, b'\n'),
+        }
+    }
+
+    // The line with what comes of restoring a tile behind what it has, and the LF.
+    #[tactic(auto, unfolding(crate::specs::Line::state_text))]
+    fn with_state(self, state: Result<Restored, Refusal>) -> Line
+        requires { length self ≤ 63 }
+        ensures { result ≡ self ++ state_text (restore_said state) ++ lf }
+    {
+        match state {
+            Ok(Restored::Repaired(found)) => self.with_found(found),
+            Ok(Restored::Filled) => self.with_words(b"filled\n"),
+            Err(refusal) => self
+                .with_words(b"refused ")
+                .with_number(size::number(refusal), b'\n'),
+        }
     }
 }
 
 // The line of a tile: its number, size and slope, and what comes of restoring it.
-pub fn tile_line(number: usize, p: usize, l: usize, state: Restored) -> Line
-    ensures { Holds result.bytes result.length (tile_line number p l (restore_said state)) }
+#[tactic(auto, unfolding(crate::specs::Line::tile_line))]
+pub fn tile_line(number: usize, p: usize, l: usize, state: Result<Restored, Refusal>) -> Line
+    ensures { result ≡ tile_line number p l (restore_said state) }
 {
-    let numbered = with_number(nothing(), number, b' ');
-    let sized = with_number(numbered, p, b' ');
-    let sloped = with_number(sized, l, b' ');
-    with_state(sloped, state)
+    Line::new()
+        .with_number(number, b' ')
+        .with_number(p, b' ')
+        .with_number(l, b' ')
+        .with_state(state)
 }
 
 // The closing line at the end of a reel: how many tiles it has.
+#[tactic(auto, unfolding(crate::specs::Line::end_line))]
 pub fn end_line(count: usize) -> Line
-    ensures { Holds result.bytes result.length (end_line count) }
+    ensures { result ≡ end_line count }
 {
-    with_number(with_words(nothing(), b"end "), count, b'\n')
+    Line::new().with_words(b"end ").with_number(count, b'\n')
 }
 
 // The closing line at a refusal: its number, and the offset of the record.
+#[tactic(auto, unfolding(crate::specs::Line::stopped_line))]
 pub fn stopped_line(refusal: Refusal, offset: usize) -> Line
-    ensures { Holds result.bytes result.length (stopped_line (number_of refusal) offset) }
+    ensures { result ≡ stopped_line (number_of refusal) offset }
 {
-    let stopped = with_number(
-        with_words(nothing(), b"stopped "),
-        size::number(refusal),
-        b' ',
-    );
-    with_number(stopped, offset, b'\n')
+    Line::new()
+        .with_words(b"stopped ")
+        .with_number(size::number(refusal), b' ')
+        .with_number(offset, b'\n')
 }

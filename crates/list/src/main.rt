@@ -1,20 +1,17 @@
 // Lists a reel that it reads from standard input.
 #![tactic(auto)]
 
-ghost use Rattle.std.specs.Prelude.{◌≡◌, length};
-ghost use Rattle.list.specs.Input.{Within};
+ghost use Rattle.std.specs.Prelude.{◌≡◌, ◌≤◌, length, IfOk};
 
+use listing::STANDARD_OUTPUT;
 use std::io::{Read, Stdin};
 
-// The numbers that the system knows its two outputs by.
-const STANDARD_OUTPUT: i32 = 1;
-
+// The number that the system knows standard error by.
 const STANDARD_ERROR: i32 = 2;
 
-// What was read: the whole input, of so many bytes; more bytes than a reel may have; or less than the input, since a read failed.
-#[derive(Drop)]
-enum Input {
-    Whole(usize),
+// Why the input is not read as a whole: it has more bytes than a reel may have, or a read failed.
+#[derive(Clone, Copy)]
+enum Unread {
     TooLong,
     Failed,
 }
@@ -26,21 +23,21 @@ fn room() -> [u8; 65537]
     [0; 65537]
 }
 
-// Reads the input until it ends, a read fails, or there is no room left.
-fn read(mut input: Stdin, room: &mut [u8]) -> Input
-    ensures { Within (length room.new) result }
+// Reads the input until it ends, and answers how many bytes it has; a read may fail, or there may be no room left.
+fn read(mut input: Stdin, room: &mut [u8]) -> Result<usize, Unread>
+    ensures { IfOk result (λ n. n ≤ length room.new) }
 {
     let mut n = 0;
     while n < room.len() {
         let Ok(more) = input.read(&mut room[n..]) else {
-            return Input::Failed;
+            return Err(Unread::Failed);
         };
         if more == 0 {
-            return Input::Whole(n);
+            return Ok(n);
         }
         n += more;
     }
-    Input::TooLong
+    Err(Unread::TooLong)
 }
 
 // Words on standard error. Where they cannot be written either, nobody is left to tell.
@@ -57,10 +54,9 @@ fn report(is_written: bool) {
 
 fn main(rt: HostRuntime) {
     let mut bytes = room();
-    let input = read(rt.stdin(), &mut bytes);
-    match input {
-        Input::Whole(n) => report(listing::print(&bytes[..n])),
-        Input::TooLong => report(io::write_all(STANDARD_OUTPUT, b"too long\n")),
-        Input::Failed => complain(b"counterfrost-list: the input could not be read\n"),
+    match read(rt.stdin(), &mut bytes) {
+        Ok(n) => report(listing::print(&bytes[..n])),
+        Err(Unread::TooLong) => report(io::write_all(STANDARD_OUTPUT, b"too long\n")),
+        Err(Unread::Failed) => complain(b"counterfrost-list: the input could not be read\n"),
     }
 }

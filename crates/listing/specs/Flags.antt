@@ -1,6 +1,6 @@
 -- How a tile with a flag is listed (SPEC 8.1): as filled where its flagged lines have a filling, and else as refused with 5; and what lost
 -- nothing but flagged lines, as filled. Assumes nothing.
-use Rattle.std.specs.Prelude.{◌≡◌, List, ℕ, take, drop}
+use Rattle.std.specs.Prelude.{◌≡◌, Option, List, ℕ, take, drop}
 use Rattle.std.proofs.Common.{sym, subst, arith, length-drop, length-take-le}
 use Rattle.code.specs.Tile.{tile_length, Good, EqualOutsideBoth, Fills}
 use Rattle.code.specs.Count.{None}
@@ -9,7 +9,6 @@ use Rattle.code.specs.declared.Kind.{Kind}
 use Rattle.code.specs.declared.Kind.TheVariants.{New}
 use Rattle.code.specs.declared.Line.{Line}
 use Rattle.size.specs.Answer as size
-use Rattle.flag.specs.declared.Flag.{Flag}
 use Rattle.promise.specs.Answer.{Said, done, refused}
 use Rattle.promise.specs.Admit.{admits}
 use Rattle.promise.specs.Calls.{Admitted, TileLength, Has}
@@ -27,7 +26,7 @@ use Rattle.lettering.specs.Line.{tile_line}
 use Rattle.listing.specs.Listing.{RestoreSays, TileListed, lists}
 
 -- the lines that a record's flags name are those of a new tile, which has them
-lines_carried : (m : Mark) (p : ℕ) {first second : Flag} {a b : Line} → Lines first second a b → Carried m p first → Carried m p second
+lines_carried : (m : Mark) (p : ℕ) {first second : Option Line} {a b : Line} → Lines first second a b → Carried m p first → Carried m p second
     → (kind_of m ≡ New) × Has p a × Has p b
 lines_carried m p (both {a} {b}) c d = ((carried_line m p a c).0, (carried_line m p a c).1, (carried_line m p b d).1)
 lines_carried m p (lone_first {a}) c d = ((carried_line m p a c).0, (carried_line m p a c).1, (carried_line m p a c).1)

@@ -2,7 +2,7 @@
 // system is to write it.
 #![tactic(auto)]
 
-ghost use Rattle.std.specs.Prelude.{◌≤◌, length, take};
+ghost use Rattle.std.specs.Prelude.{◌≤◌, length};
 ghost use Rattle.reel.specs.Answer.{found_said, NoTile};
 ghost use Rattle.reel.specs.Calls.{NextTold};
 ghost use Rattle.promise.specs.Answer.{restore_said};
@@ -10,43 +10,46 @@ ghost use Rattle.listing.specs.Listing.{RestoreSays, TileListed, Closes};
 ghost use Rattle.listing.specs.Reached.{Reached};
 
 pub use lettering::line;
+use line::Line;
 use promise::Restored;
 use reel::{Found, Tile};
+use size::Refusal;
 
 // The number that the system knows standard output by.
-const STANDARD_OUTPUT: i32 = 1;
+pub const STANDARD_OUTPUT: i32 = 1;
 
 // What comes of restoring a tile's bytes, which stay as they are: a copy of them is restored.
-fn state(tile: Tile, bytes: &[u8], copy: &mut [u8]) -> Restored
+fn state(tile: Tile, bytes: &[u8], copy: &mut [u8]) -> Result<Restored, Refusal>
     requires { length bytes.now ≤ length copy.old }
     ensures { RestoreSays tile bytes.now (restore_said result) }
 {
     let n = bytes.len();
     copy[..n].copy_from_slice(bytes);
-    let kind = tile.kind;
-    let first = tile.first;
-    let second = tile.second;
-    restorer::restore(kind, tile.p, tile.l, &mut copy[..n], first, second)
+    restorer::restore(
+        tile.kind,
+        tile.p,
+        tile.l,
+        &mut copy[..n],
+        tile.first,
+        tile.second,
+    )
 }
 
 // The line of the tile that stands at the start of what is left of a reel.
-fn next_line(left: &[u8], tile: Tile, copy: &mut [u8]) -> line::Line
+fn next_line(left: &[u8], tile: Tile, copy: &mut [u8]) -> Line
     requires next_told { NextTold left.now 0 (found_said (Found.Tile tile)) }
     requires in_bounds { 65536 ≤ length copy.old }
-    ensures tile_listed { TileListed left.now 0 (take result.length result.bytes) }
-    ensures length_in_bounds { result.length ≤ length result.bytes }
+    ensures { TileListed left.now 0 result }
 {
-    let bytes = reel::bytes(left, 0);
-    let said = state(tile, bytes, copy);
+    let said = state(tile, reel::bytes(left, 0), copy);
     line::tile_line(tile.number, tile.p, tile.l, said)
 }
 
 // The closing line, where no tile stands at the start of what is left.
-fn closing_line(reel: &[u8], left: &[u8], found: Found, tiles: usize) -> line::Line
+fn closing_line(reel: &[u8], left: &[u8], found: Found, tiles: usize) -> Line
     requires reached { Reached reel.now left.now tiles }
     requires next_told { NextTold left.now 0 (found_said found) × NoTile (found_said found) }
-    ensures closes { Closes reel.now (take result.length result.bytes) }
-    ensures length_in_bounds { result.length ≤ length result.bytes }
+    ensures { Closes reel.now result }
 {
     let Found::Refused(refusal, at) = found else {
         return line::end_line(tiles);
@@ -55,12 +58,8 @@ fn closing_line(reel: &[u8], left: &[u8], found: Found, tiles: usize) -> line::L
 }
 
 // Writes a line, and answers whether all of it was written.
-fn write(line: line::Line) -> bool
-    requires { line.length ≤ length line.bytes }
-{
-    let bytes = line.bytes;
-    let length = line.length;
-    io::write_all(STANDARD_OUTPUT, &bytes[..length])
+fn write(line: Line) -> bool {
+    io::write_all(STANDARD_OUTPUT, line.text())
 }
 
 // Lists a reel, with room for a copy of the largest tile.
@@ -78,8 +77,7 @@ fn print_with(reel: &[u8], copy: &mut [u8]) -> bool
             return false;
         }
         tiles += 1;
-        let rest = reel::rest(left, 0);
-        left = rest;
+        left = reel::rest(left, 0);
     }
 }
 

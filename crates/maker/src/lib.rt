@@ -2,144 +2,96 @@
 #![tactic(auto)]
 
 ghost use Rattle.std.specs.Prelude.{◌≡◌, length};
-ghost use Rattle.files.specs.Exit.{Exit};
 
 use code::Kind;
-use files::{asked, copy, guide, input, measure, new, say};
-use flag::Flag;
+use files::held::Word;
+use files::input::Input;
+use files::new::NewReel;
+use files::told::Told;
+use files::{asked, guide, input, measure, new, say, streams};
 use header::{Header, Mark};
-use printer::Laid;
-use promise::Outcome;
-use size::{House, Judgement, Refusal};
-use std::fs::File;
-use words::{Amount, Verb};
+use size::Refusal;
+use words::Verb;
 
-// The size and the slope of the tiles, and the number of the first one; or the words for them are wrong.
+// What the words ask for: the size and the slope of the tiles, the number of the first one, and how many texts there are.
 #[derive(Clone, Copy)]
-enum Plan {
-    Is(usize, usize, usize),
-    No,
-}
-
-// The k-th plain word as a number.
-fn number(rt: &HostRuntime, k: usize) -> Amount {
-    let mut word = io::buffer();
-    let n = asked::plain(rt, k, &mut word);
-    let number = words::number(&word[..n]);
-    match number {
-        Amount::Is(_) => {}
-        Amount::TooLarge => {
-            guide::wrong(rt, Verb::Write, &word[..n], b": above 4294967295");
-        }
-        Amount::No => {
-            guide::wrong(rt, Verb::Write, &word[..n], b": no number");
-        }
-    }
-    number
-}
-
-// The slope that the third plain word says: the house slope of p, or a number.
-fn slope(rt: &HostRuntime, p: usize) -> Amount {
-    let mut word = io::buffer();
-    let n = asked::plain(rt, 2, &mut word);
-    if words::is(&word[..n], b"house") {
-        return match size::house_slope(p) {
-            House::Slope(l) => Amount::Is(l),
-            House::Refused(_) => Amount::Is(0),
-        };
-    }
-    number(rt, 2)
-}
-
-// Says that the size or the slope is refused.
-fn judged(rt: &HostRuntime, p: usize, l: usize) -> bool {
-    match size::judge(Kind::New, p, l) {
-        Judgement::Taken => true,
-        Judgement::Refused(no) => {
-            say::name(rt);
-            say::words(rt, b"refused ");
-            say::number(rt, size::number(no));
-            match no {
-                Refusal::BadSize => {
-                    say::words(rt, b": no size is ");
-                    say::number(rt, p);
-                }
-                _ => {
-                    say::words(rt, b": at this size no slope is ");
-                    say::number(rt, l);
-                }
-            }
-            say::words(rt, b"\n");
-            guide::goes(rt, Verb::Write);
-            false
-        }
-    }
-}
-
-// What the words ask for.
-fn planned(rt: &HostRuntime, texts: usize) -> Plan {
-    let first = number(rt, 1);
-    let Amount::Is(p) = first else {
-        return Plan::No;
-    };
-    let second = slope(rt, p);
-    let Amount::Is(l) = second else {
-        return Plan::No;
-    };
-    let third = number(rt, 3);
-    let Amount::Is(from) = third else {
-        return Plan::No;
-    };
-    if !judged(rt, p, l) {
-        return Plan::No;
-    }
-    if input::plus(from, texts) > words::LARGEST + 1 {
-        say::line(rt, b"the last tile's number is above 4294967295");
-        guide::goes(rt, Verb::Write);
-        return Plan::No;
-    }
-    Plan::Is(p, l, from)
-}
-
-// Writes a reel of texts.
-pub fn write(rt: &HostRuntime, plain: usize, force: bool) -> i32
-    ensures { Exit result }
-{
-    let mut new = io::buffer();
-    let Some(n) = asked::held(rt, 0, &mut new) else {
-        return 2;
-    };
-    if plain < 5 {
-        return 2;
-    }
-    match planned(rt, plain - 4) {
-        Plan::No => 2,
-        Plan::Is(p, l, from) => written(rt, &new[..n], p, l, from, plain - 4, force),
-    }
-}
-
-fn written(
-    rt: &HostRuntime,
-    new: &[u8],
+struct Plan {
     p: usize,
     l: usize,
-    from: usize,
+    first: usize,
     texts: usize,
-    force: bool,
-) -> i32
-    ensures { Exit result }
-{
-    let mut part = io::buffer();
-    let n = new::part(new, &mut part);
-    let Some(out) = new::begin(rt, None, new, &part[..n], force) else {
-        return 2;
-    };
-    let status = all(rt, &out, p, l, from, texts, &part[..n]);
-    if status == 0 {
-        return new::keep(rt, out, &part[..n], new, force, status);
+}
+
+// The plain words before the texts.
+const BEFORE: usize = 4;
+
+// Writes a reel of texts.
+pub fn write(rt: &HostRuntime, plain: usize, force: bool) -> Result<(), Told> {
+    let new = asked::word(rt, 0)?;
+    if plain <= BEFORE {
+        return Err(guide::too_few(rt, Verb::Write));
     }
-    new::drop(rt, out, &part[..n]);
-    status
+    let plan = Plan::asked(rt, plain - BEFORE)?;
+    new::made(rt, None, new.bytes(), force, |new| plan.write(rt, new))
+}
+
+// The slope that the third plain word says: the house slope of p, or a number. Where p is no size it does not matter which.
+fn slope(rt: &HostRuntime, p: usize) -> Result<usize, Told> {
+    let word = asked::word(rt, 2)?;
+    if word.bytes() != b"house".as_slice() {
+        return asked::number(rt, Verb::Write, 2);
+    }
+    Ok(size::house_slope(p).unwrap_or(0))
+}
+
+// Judges the size and the slope. If they are refused, that is said.
+fn judged(rt: &HostRuntime, p: usize, l: usize) -> Result<(), Told> {
+    let Err(no) = size::judge(Kind::New, p, l) else {
+        return Ok(());
+    };
+    say::name(rt);
+    say::words(rt, b"refused ");
+    say::number(rt, size::number(no));
+    match no {
+        Refusal::BadSize => {
+            say::words(rt, b": no size is ");
+            say::number(rt, p);
+        }
+        _ => {
+            say::words(rt, b": at this size no slope is ");
+            say::number(rt, l);
+        }
+    }
+    say::words(rt, b"\n");
+    Err(guide::goes(rt, Verb::Write))
+}
+
+// Says that a tile would have a number that is too large.
+fn too_many(rt: &HostRuntime) -> Told {
+    say::line(rt, b"the last tile's number is above 4294967295");
+    guide::goes(rt, Verb::Write)
+}
+
+// Says that a text is refused.
+fn refused(rt: &HostRuntime, name: &[u8], no: Refusal) -> Told {
+    say::name(rt);
+    say::words(rt, name);
+    say::words(rt, b": refused ");
+    say::number(rt, size::number(no));
+    say::words(rt, b"\n");
+    Told
+}
+
+// Says how long a text has to be.
+fn wrong_length(rt: &HostRuntime, name: &[u8], p: usize) -> Told {
+    say::name(rt);
+    say::words(rt, name);
+    say::words(rt, b": refused 3: a text has ");
+    say::number(rt, measure::text(p));
+    say::words(rt, b" bytes at size ");
+    say::number(rt, p);
+    say::words(rt, b"\n");
+    Told
 }
 
 // Room for the largest record without flags, and a little more.
@@ -149,159 +101,98 @@ fn record_room() -> [u8; 65552]
     [0; 65552]
 }
 
-// All texts, one behind the other.
-fn all(
-    rt: &HostRuntime,
-    out: &File,
-    p: usize,
-    l: usize,
-    from: usize,
-    texts: usize,
-    part: &[u8],
-) -> i32
-    ensures { Exit result }
-{
-    let mut text = io::large_buffer();
-    let mut tile = io::large_buffer();
-    let mut room = record_room();
-    each(
-        rt, out, p, l, from, texts, part, &mut text, &mut tile, &mut room,
-    )
-}
+impl Plan {
+    fn asked(rt: &HostRuntime, texts: usize) -> Result<Plan, Told> {
+        let p = asked::number(rt, Verb::Write, 1)?;
+        let l = slope(rt, p)?;
+        let first = asked::number(rt, Verb::Write, 3)?;
+        judged(rt, p, l)?;
+        if first.saturating_add(texts) > words::LARGEST + 1 {
+            return Err(too_many(rt));
+        }
+        Ok(Plan { p, l, first, texts })
+    }
 
-// The same, with room for a text, a tile and a record.
-fn each(
-    rt: &HostRuntime,
-    out: &File,
-    p: usize,
-    l: usize,
-    from: usize,
-    texts: usize,
-    part: &[u8],
-    text: &mut [u8],
-    tile: &mut [u8],
-    room: &mut [u8],
-) -> i32
-    ensures { Exit result }
-{
-    for k in 0..texts {
-        let status = one(rt, out, p, l, from, k, part, text, tile, room);
-        if status != 0 {
-            return status;
+    // Each text is read, written as a tile and laid as a record, one behind the other.
+    fn write(&self, rt: &HostRuntime, new: &NewReel) -> Result<(), Told> {
+        let mut text = io::large_buffer();
+        let mut tile = io::large_buffer();
+        let mut record = record_room();
+        for k in 0..self.texts {
+            let name = asked::word(rt, k.saturating_add(BEFORE))?;
+            let text = self.text(rt, k, &name, &mut text)?;
+            let tile = self.tile(rt, &name, text, &mut tile)?;
+            let length = self.record(rt, k, &name, tile, &mut record)?;
+            new.write(&record, length)
+                .map_err(|error| say::failed(rt, new.part.bytes(), error))?;
+        }
+        Ok(())
+    }
+
+    // Reads the k-th text.
+    fn text<'r>(
+        &self,
+        rt: &HostRuntime,
+        k: usize,
+        name: &Word,
+        room: &'r mut [u8],
+    ) -> Result<&'r [u8], Told> {
+        let name = name.bytes();
+        if input::is_standard(name) && is_taken(rt, k) {
+            return Err(input::failed(rt, name, streams::closed()));
+        }
+        let text = Input::open(rt, name)?.read(rt, room)?;
+        if text.len() != measure::text(self.p) {
+            return Err(wrong_length(rt, name, self.p));
+        }
+        Ok(text)
+    }
+
+    // Makes the tile of a text.
+    fn tile<'r>(
+        &self,
+        rt: &HostRuntime,
+        name: &Word,
+        text: &[u8],
+        room: &'r mut [u8],
+    ) -> Result<&'r [u8], Told> {
+        let count = say::at_most(measure::tile(self.p), room);
+        match writer::write(Kind::New, self.p, self.l, text, &mut room[..count]) {
+            Ok(()) => Ok(&room[..count]),
+            Err(no) => Err(refused(rt, name.bytes(), no)),
         }
     }
-    0
-}
 
-// The k-th text: it is read, written as a tile, laid as a record, and that is written to the new reel.
-fn one(
-    rt: &HostRuntime,
-    out: &File,
-    p: usize,
-    l: usize,
-    from: usize,
-    k: usize,
-    part: &[u8],
-    text: &mut [u8],
-    tile: &mut [u8],
-    room: &mut [u8],
-) -> i32
-    ensures { Exit result }
-{
-    let mut name = io::buffer();
-    let Some(n) = asked::held(rt, input::plus(k, 4), &mut name) else {
-        return 2;
-    };
-    if input::is_standard(&name[..n]) && is_taken(rt, k) {
-        return input::failed(rt, &name[..n], input::closed());
+    // Lays the record of the k-th tile, and answers its length.
+    fn record(
+        &self,
+        rt: &HostRuntime,
+        k: usize,
+        name: &Word,
+        tile: &[u8],
+        room: &mut [u8],
+    ) -> Result<usize, Told> {
+        let Ok(number) = u32::try_from(self.first.saturating_add(k)) else {
+            return Err(too_many(rt));
+        };
+        let header = Header {
+            mark: Mark::Plain,
+            p: self.p,
+            l: self.l,
+            number,
+            first: None,
+            second: None,
+        };
+        printer::lay(header, tile, room).map_err(|no| refused(rt, name.bytes(), no))
     }
-    let view = match input::open(rt, &name[..n]) {
-        Ok(source) => input::first(&source, text),
-        Err(error) => return input::failed(rt, &name[..n], error),
-    };
-    if let Some(error) = view.failed {
-        return input::failed(rt, &name[..n], error);
-    }
-    let held = say::at_most(view.held, text);
-    if held != measure::text(p) {
-        return wrong_length(rt, &name[..n], p);
-    }
-    laid(
-        rt,
-        out,
-        p,
-        l,
-        input::plus(from, k),
-        part,
-        &text[..held],
-        tile,
-        room,
-    )
 }
 
 // Was standard input read for a text before the k-th one? It is read to its end, and then it is closed for all that come behind.
 fn is_taken(rt: &HostRuntime, k: usize) -> bool {
-    for j in 0..k {
-        let mut word = io::buffer();
-        let n = asked::plain(rt, input::plus(j, 4), &mut word);
-        if input::is_standard(&word[..n]) {
-            return true;
-        }
-    }
-    false
+    (0..k).any(|j| is_text_standard(rt, j))
 }
 
-// Says how long a text has to be.
-fn wrong_length(rt: &HostRuntime, name: &[u8], p: usize) -> i32
-    ensures { Exit result }
-{
-    say::name(rt);
-    say::words(rt, name);
-    say::words(rt, b": refused 3: a text has ");
-    say::number(rt, measure::text(p));
-    say::words(rt, b" bytes at size ");
-    say::number(rt, p);
-    say::words(rt, b"\n");
-    2
-}
-
-fn laid(
-    rt: &HostRuntime,
-    out: &File,
-    p: usize,
-    l: usize,
-    number: usize,
-    part: &[u8],
-    text: &[u8],
-    tile: &mut [u8],
-    room: &mut [u8],
-) -> i32
-    ensures { Exit result }
-{
-    let cells = say::at_most(measure::tile(p), tile);
-    match writer::write(Kind::New, p, l, text, &mut tile[..cells]) {
-        Outcome::Done => {}
-        Outcome::Refused(_) => return 2,
-    }
-    if number > words::LARGEST {
-        return 2;
-    }
-    let header = Header {
-        mark: Mark::Plain,
-        p,
-        l,
-        number: number as u32,
-        first: Flag::None,
-        second: Flag::None,
-    };
-    let whole = say::at_most(cells, tile);
-    match printer::lay(header, &tile[..whole], room) {
-        Laid::Record(length) => {
-            match copy::copied(Some(out), room, length) {
-                Ok(()) => 0,
-                Err(error) => say::failed(rt, part, error),
-            }
-        }
-        Laid::Refused(_) => 2,
-    }
+// Is standard input read for the j-th text?
+fn is_text_standard(rt: &HostRuntime, j: usize) -> bool {
+    asked::word(rt, j.saturating_add(BEFORE)).is_ok_and(|word| input::is_standard(word.bytes()))
 }

@@ -1,14 +1,13 @@
 -- What a change in a line is called: the name of the difference that it makes in a tile (SPEC 5.3). Assumes nothing.
-use Rattle.std.specs.Prelude.{◌≡◌, List, ℕ, ◌+◌, ◌-◌, ◌≤◌, ◌<◌}
+use Rattle.std.specs.Prelude.{◌≡◌, List, ℕ, ◌+◌, ◌-◌, ◌≤◌, ◌<◌, true, false, Option, Some, None, is_some}
 use Rattle.std.proofs.Common.{sym, ap, ◌∙◌, arith}
-use Rattle.std.proofs.Math.Decide.{dec_lt}
 use Rattle.xor.specs.Xor.{◌⊕◌, zero_r, cancel}
 use Rattle.code.specs.Tile.{cell, EqualOutside, Differ}
 use Rattle.code.specs.OneLine.{number, row_at, column_at, along, along_off, along_nth}
 use Rattle.code.specs.Differ.{index, nth_in}
 use Rattle.code.specs.declared.Line.{Line}
 use Rattle.cells.specs.Change.{Added}
-use Rattle.search.specs.Hurt.{NextChanged, Twice, twice_changed, once_changed}
+use Rattle.search.specs.Hurt.{ChangedAt, NextChanged, Twice, twice_changed, once_changed}
 use Rattle.promise.specs.Answer.{Said}
 use Rattle.promise.specs.Calls.{Named, by_cell}
 use Rattle.promise.specs.Name.{line_said, DifferNth, nth_of, in_one, in_more, line_named}
@@ -39,26 +38,32 @@ module _ (p : ℕ) (a : Line) (X : ℕ → ℕ) (x z : List ℕ) (h : number a <
       let q = ((nth_in p a k).1 (d.row, d.column)).1 in
       d.bytes (sym (nth_changed k q ∙ ap (λ (w : ℕ). cell p x (row_at a k) (column_at a k) ⊕ w) (e q) ∙ zero_r _))
 
--- k is the first place that is changed, and m the next one
-module _ (p : ℕ) (a : Line) (X : ℕ → ℕ) (k m : ℕ) (first : NextChanged X 0 (p - 1) k) (second : NextChanged X (k + 1) (p - 1) m) where
-  -- if there are two, the change is called by its line
-  pub called_line : m < p - 1 → Called p a X (line_said a)
-  called_line q = record {
+-- a change that is nowhere is called clean, as nothing differs
+pub called_none : (p : ℕ) (a : Line) (X : ℕ → ℕ) → ((j : ℕ) → 0 ≤ j → j < p - 1 → X j ≡ 0) → Called p a X Said.clean
+called_none p a X none = record {
+  names = λ x z h added hurt. absurd (hurt (λ i j d.
+      agrees p a X x z h added (index a i j) (none _ (omega arith)) (nth_of p a x z (unchanged p a X x z h added) i j d)));
+}
+
+-- k is the first place that is changed, and then there may be a next one
+module _ (p : ℕ) (a : Line) (X : ℕ → ℕ) (k : ℕ) (first : ChangedAt X 0 (p - 1) k) where
+  -- if there is, the change is called by its line
+  pub called_line : (second : Option ℕ) → NextChanged X (k + 1) (p - 1) second → is_some second ≡ true → Called p a X (line_said a)
+  called_line None none e = cc
+  called_line (Some m) second e = record {
     names = λ x z h added hurt.
-        let t : Twice (p - 1) X = twice_changed first second q in
+        let t : Twice (p - 1) X = twice_changed first second in
         line_named a
         (in_more p a x z (unchanged p a X x z h added) t.one t.other t.apart (differs p a X x z h added t.one t.one_lt t.at_one)
         (differs p a X x z h added t.other t.other_lt t.at_other));
   }
 
-  -- if there is one, by its cell
-  pub called_cell : p - 1 ≤ m → Called p a X (Said.cell (row_at a k) (column_at a k))
-  called_cell q = record { names = λ x z h added hurt. go x z h added hurt (dec_lt k (p - 1)) }
-    where
-      go : (x z : List ℕ) → number a < p - 1 → Added p (along a X) x z → (((i j : ℕ) → Differ p x z i j → ⊥) → ⊥) → Dec (k < p - 1)
-          → Named p x z (Said.cell (row_at a k) (column_at a k))
-      go x z h added hurt (yes is) =
-          by_cell (in_one p a x z (unchanged p a X x z h added) k (differs p a X x z h added k is (first.is is)) (λ o n.
-          agrees p a X x z h added o (λ b. once_changed first second q o b n)))
-      go x z h added hurt (no none) = absurd (hurt (λ i j d.
-          agrees p a X x z h added (index a i j) (λ b. first.before _ (omega arith) (omega arith)) (nth_of p a x z (unchanged p a X x z h added) i j d)))
+  -- if there is none, by its cell
+  pub called_cell : (second : Option ℕ) → NextChanged X (k + 1) (p - 1) second → is_some second ≡ false
+      → Called p a X (Said.cell (row_at a k) (column_at a k))
+  called_cell None none e = record {
+    names = λ x z h added hurt.
+        by_cell (in_one p a x z (unchanged p a X x z h added) k (differs p a X x z h added k first.high first.is) (λ o n.
+        agrees p a X x z h added o (λ b. once_changed first none o b n)));
+  }
+  called_cell (Some m) second e = cc

@@ -1,6 +1,6 @@
 -- How a repair ends: what the search found, and the change that was made to the tile, make an outcome that the call's relation allows.
 -- Assumes nothing.
-use Rattle.std.specs.Prelude.{◌≡◌, List, ℕ, ◌-◌, ◌<◌, length}
+use Rattle.std.specs.Prelude.{◌≡◌, List, ℕ, ◌-◌, ◌<◌, length, Option, Some, None, Result, Ok, Err}
 use Rattle.std.proofs.Common.{sym, ap, ◌∙◌, arith}
 use Rattle.std.proofs.Math.Decide.{ℕ_discrete}
 use Rattle.xor.specs.Xor.{◌⊕◌, self}
@@ -22,8 +22,10 @@ use Rattle.cells.specs.Change.{Added, changed_good, changed, changed_added, chan
 use Rattle.walk.specs.Along.{Shifted}
 use Rattle.search.specs.Hurt as hurt
 use Rattle.search.specs.Hurt.{Once}
-use Rattle.search.specs.declared.hurt.Hurt.{Hurt}
-use Rattle.search.specs.declared.hurt.Hurt.TheVariants as found
+use Rattle.search.specs.declared.hurt.Unclear.{Unclear}
+use Rattle.search.specs.declared.hurt.Unclear.TheVariants as unclear
+use Rattle.size.specs.Refusal.{number_of}
+use Rattle.search.specs.Unclear.{refusal_of}
 use Rattle.promise.specs.Answer.{Said, clean, refused}
 use Rattle.promise.specs.Calls.{Admitted, TileLength, BothLengths, Looked, Explains, ByLine, Named, RepairTold, is_good, is_hurt, RecoverTold, Has}
 use Rattle.promise.specs.Admit.{admitted_some, slope_of_lem}
@@ -77,12 +79,15 @@ once_crossing p a X x z k h added once i j d = at a (here (ℕ_discrete (index a
 
 -- ---- what is made of a finding
 
+-- what is found: nothing or a line, or why it is not known which
+abbrev pub Hurt : Type 0
+Hurt = Result (Option Line) Unclear
+
 -- the line that was found is one of the tile's
 abbrev pub LineIn : ℕ → Hurt → Type 0
-LineIn p found.Nothing = Unit {0}
-LineIn p (found.One a) = number a < p - 1
-LineIn p found.More = Unit {0}
-LineIn p found.Doubtful = Unit {0}
+LineIn p (Ok None) = Unit {0}
+LineIn p (Ok (Some a)) = number a < p - 1
+LineIn p (Err e) = Unit {0}
 
 pub line_in : {p l : ℕ} {A B X : ℕ → ℕ} {which : Hurt} → hurt.Found p l A B X which → LineIn p which
 line_in (hurt.good g) = tt
@@ -90,29 +95,32 @@ line_in (hurt.one d h e w alone) = h
 line_in (hurt.more d none) = tt
 line_in (hurt.doubtful d hc hr e f two) = tt
 
-pub one_in : (p : ℕ) {which : Hurt} {a : Line} → which ≡ found.One a → LineIn p which → number a < p - 1
+pub one_in : (p : ℕ) {which : Hurt} {a : Line} → which ≡ Ok (Some a) → LineIn p which → number a < p - 1
 one_in p e h = rw e at h
 
 -- the tile that repair leaves of x: with the change X in the line that was found, or x itself
 abbrev pub mended : ℕ → (ℕ → ℕ) → Hurt → List ℕ → List ℕ
-mended p X found.Nothing x = x
-mended p X (found.One a) x = changed p (along a X) x
-mended p X found.More x = x
-mended p X found.Doubtful x = x
+mended p X (Ok None) x = x
+mended p X (Ok (Some a)) x = changed p (along a X) x
+mended p X (Err e) x = x
 
 -- the text that recover leaves: that of the mended tile, or the one that was lent
 abbrev pub Recovered : ℕ → (ℕ → ℕ) → Hurt → List ℕ → List ℕ → List ℕ → Type 0
-Recovered p X found.Nothing scan text new = new ≡ text_of p scan
-Recovered p X (found.One a) scan text new = new ≡ text_of p (changed p (along a X) scan)
-Recovered p X found.More scan text new = new ≡ text
-Recovered p X found.Doubtful scan text new = new ≡ text
+Recovered p X (Ok None) scan text new = new ≡ text_of p scan
+Recovered p X (Ok (Some a)) scan text new = new ≡ text_of p (changed p (along a X) scan)
+Recovered p X (Err e) scan text new = new ≡ text
 
 -- what is said of it
 pub data Told (p : ℕ) (X : ℕ → ℕ) : Hurt → Said → Type 0 where
-  nothing : Told p X found.Nothing clean
-  line : {a : Line} {s : Said} → Called p a X s → Told p X (found.One a) s
-  more : Told p X found.More (refused 5)
-  doubtful : Told p X found.Doubtful (refused 8)
+  nothing : Told p X (Ok None) clean
+  line : {a : Line} {s : Said} → Called p a X s → Told p X (Ok (Some a)) s
+  more : Told p X (Err unclear.Damaged) (refused 5)
+  doubtful : Told p X (Err unclear.Doubtful) (refused 8)
+
+-- and of what is not known: its refusal
+pub told_unclear : (p : ℕ) (X : ℕ → ℕ) (e : Unclear) → Told p X (Err e) (refused (number_of (refusal_of e)))
+told_unclear p X unclear.Damaged = more
+told_unclear p X unclear.Doubtful = doubtful
 
 -- ---- the outcome
 
@@ -139,29 +147,29 @@ module _ (kind : Kind) (p l : ℕ) (x : List ℕ) (X : ℕ → ℕ) (a : Admitte
   sole {b} z d h added by (hurt.uncrossed f) = line_only p l x (slope_of_lem a) b by (λ c y cross e. absurd (disagrees c d (λ q. f c q cross) y e))
 
   -- the line that was found explains x by the mended tile, and what is said names the difference
-  by_line : {b : Line} → Found (found.One b) → Explains p l b x (changed p (along b X) x)
+  by_line : {b : Line} → Found (Ok (Some b)) → Explains p l b x (changed p (along b X) x)
   by_line {b} (hurt.one d h e w alone) =
       line_explains p l b X x (changed p (along b X) x) (slope_of_lem a) (omega arith) (changed_length p (along b X) x) e w (changed_added p (along b X) x)
 
-  pub named : {b : Line} {s : Said} → Found (found.One b) → Called p b X s → Named p x (changed p (along b X) x) s
+  pub named : {b : Line} {s : Said} → Found (Ok (Some b)) → Called p b X s → Named p x (changed p (along b X) x) s
   named {b} (hurt.one d h e w alone) called =
       let z = changed p (along b X) x in
       let good = (by_line (hurt.one d h e w alone)).good in
       called.names x z h (changed_added p (along b X) x) (λ none. spoiled d (same_good p l x z (λ i j hi hj. agree_at p x z i j hi hj (none i j)) good))
 
   -- nothing was found hurt; a line was; no line explains it; or it is doubtful
-  ends_clean : Found found.Nothing → RepairTold kind p l x clean x
+  ends_clean : Found (Ok None) → RepairTold kind p l x clean x
   ends_clean (hurt.good g) = is_good a (one_good p l x g)
 
-  ends_mended : {b : Line} {s : Said} → Found (found.One b) → Called p b X s → RepairTold kind p l x s (changed p (along b X) x)
+  ends_mended : {b : Line} {s : Said} → Found (Ok (Some b)) → Called p b X s → RepairTold kind p l x s (changed p (along b X) x)
   ends_mended {b} (hurt.one d h e w alone) called =
       let f = hurt.one d h e w alone in
       is_hurt a (spoiled d) (Looked.one (sole (changed p (along b X) x) d h (changed_added p (along b X) x) (by_line f) alone) (named f called))
 
-  ends_damaged : Found found.More → RepairTold kind p l x (refused 5) x
+  ends_damaged : Found (Err unclear.Damaged) → RepairTold kind p l x (refused 5) x
   ends_damaged (hurt.more d none) = is_hurt a (spoiled d) (Looked.none (λ y t. disagrees t.line d (none t.line) y t.explains))
 
-  ends_doubtful : Found found.Doubtful → RepairTold kind p l x (refused 8) x
+  ends_doubtful : Found (Err unclear.Doubtful) → RepairTold kind p l x (refused 8) x
   ends_doubtful (hurt.doubtful {c} {r} d hc hr e f two) =
       let S = slope_of_lem a in
       let y = (explained p l (Column c) x S (omega arith)).1 e in

@@ -1,12 +1,12 @@
 -- How texts are put on a page one behind the other. Assumes nothing.
-use Rattle.std.specs.Prelude.{◌≡◌, refl, List, [], ◌++◌, ℕ, ◌+◌, ◌-◌, ◌≤◌, ◌<◌, length, take, drop}
-use Rattle.std.proofs.Common.{sym, ap, ◌∙◌, append-nil, append_assoc, arith, length-append, length-take, length-drop, take-append-drop, drop_of_length-le, drop-drop, take_all}
-use Rattle.std.proofs.lemmas.List.{drop-append-le}
-use Rattle.std.proofs.Math.Seq.{paste, take-length}
-use Rattle.std.proofs.lemmas.List.Edits.{length-paste, take-paste, drop-paste}
-use borrow.Rule.Slice.PartMut.{mid_of, put_mid}
+use Rattle.std.specs.Prelude.{◌≡◌, refl, List, [], ◌++◌, ℕ, ◌+◌, ◌-◌, ◌≤◌, ◌<◌, min, length, take, drop}
+use Rattle.std.proofs.Common.{sym, ap, ◌∙◌, append-nil, append_assoc, arith, length-append, length-take, length-drop, drop_of_length-le, drop-drop, take_all}
+use Rattle.std.proofs.Math.Decide.{dec_lt}
+use borrow.Rule.Slice.PartMut.{put_mid}
+use Rattle.std.proofs.lemmas.Slice.{take-put_mid, drop-put_mid}
 use Rattle.lettering.specs.Line.{ascii, decimal}
-use Rattle.page.specs.Page.{Puts, right_aligned}
+use Rattle.page.specs.Page.{Puts, PutOn, right_aligned}
+use Rattle.page.specs.declared.Page.{Page}
 
 infixl 60 ◌then◌
 -- nothing is put
@@ -25,29 +25,32 @@ pub ◌then◌ : {page new last : List ℕ} {at to end : ℕ} {text more : List 
       ∙ drop-drop (end - to) to page ∙ ap (λ (n : ℕ). drop n page) far;
 }
 
--- words that are copied to the beginning of what stands from a place on are put at that place
-module _ (page words : List ℕ) (at : ℕ) (fits : at + length words ≤ length page) where
-  abbrev rest : List ℕ
-  rest = mid_of at (length page - at) page
+-- the same on a page that says how much of it is used: a text, and behind it another ..
+infixl 60 ◌and◌
+pub ◌and◌ : {m n : ℕ} {page new last : Page} {text more : List ℕ} → PutOn m page text new → PutOn n new more last → PutOn (m + n) page (text ++ more) last
+◌and◌ first second = record {
+  puts = first.puts then second.puts;
+  within = omega (arith, first.within, second.within);
+  same = second.same ∙ first.same;
+}
 
-  pasted : (part : List ℕ) → part ≡ take (length words) words ++ drop (length words) rest
-      → put_mid at (length page - at) page part ≡ paste page at words (length words)
-  pasted part e =
-      let n = length words in
-      let k = length page - at in
-      let long : n ≤ length rest = simp (length-take, length-drop) (omega arith) in
-      let behind : drop n rest ++ drop k (drop at page) ≡ drop (at + n) page
-      = sym (drop-append-le n rest (drop k (drop at page)) long) ∙ ap (drop n) (take-append-drop k (drop at page)) ∙ drop-drop n at page in
-      rw (e, append_assoc (take n words) (drop n rest) (drop k (drop at page)), behind, ← append_assoc (take at page) (take n words) (drop (at + n) page))
+-- .. or nothing ..
+pub nothing_on : (page : Page) → PutOn 0 page [] page
+nothing_on page = record { puts = puts_nothing page.bytes.now page.used; within = omega arith; same = refl }
 
-  pub put_copied : (part : List ℕ) → part ≡ take (length words) words ++ drop (length words) rest
-      → Puts page at words (at + length words) (put_mid at (length page - at) page part)
-  put_copied part e = rw (pasted part e) record {
-    long = refl;
-    same = length-paste page at words (length words) fits (omega arith);
-    is = take-paste page at words (length words) (omega arith) (omega arith) ∙ ap (λ (x : List ℕ). take at page ++ x) (take-length words);
-    behind = drop-paste page at words (length words) (omega arith) (omega arith);
-  }
+-- .. and what takes at most so much takes at most more
+pub at_most : {m : ℕ} {page new : Page} {text : List ℕ} (n : ℕ) → m ≤ n → PutOn m page text new → PutOn n page text new
+at_most n h put = record { puts = put.puts; within = omega (arith, put.within); same = put.same }
+
+-- words that are copied to the place behind what is used are put there
+pub put_copied : (page words : List ℕ) (used k : ℕ) (part : List ℕ) → used + length words ≤ length page → k ≡ length words → part ≡ words
+    → Puts page used words (used + length words) (put_mid used k page part)
+put_copied page words used k part fits long e = record {
+  long = refl;
+  same = simp (length-append, length-take, length-drop) (omega (arith, ap length e));
+  is = rw (take-put_mid used k page part (used + length words) (omega (arith, ap length e)) (omega arith), e);
+  behind = drop-put_mid used k page part (used + length words) (omega arith) (omega arith) (omega (arith, ap length e));
+}
 
 -- a number's digits, k of them, with as many of 12 spaces before them as are left; and those of which there are none left
 pub aligned : (n k : ℕ) (digits : List ℕ) → digits ≡ decimal n → length digits ≡ k → k < 12
@@ -62,3 +65,12 @@ unfolding right_aligned
 filled_up n k digits e long h =
     let same : length (decimal n) ≡ k = sym (ap length e) ∙ long in
     rw (e, same, drop_of_length-le (ascii "            ") h)
+
+-- so as many of the 12 as there are digits are left out, and all of them where there are more digits
+pub aligned_at_most : (n k m : ℕ) (digits : List ℕ) → digits ≡ decimal n → length digits ≡ k → m ≡ min k 12
+    → take (12 - m) (drop m (ascii "            ")) ++ digits ≡ right_aligned n
+aligned_at_most n k m digits e long is = go (dec_lt k 12)
+  where
+    go : Dec (k < 12) → take (12 - m) (drop m (ascii "            ")) ++ digits ≡ right_aligned n
+    go (yes h) = let same : m ≡ k = omega arith in rw same (aligned n k digits e long h)
+    go (no h) = let all : m ≡ 12 = omega arith in rw all (filled_up n k digits e long (omega arith))

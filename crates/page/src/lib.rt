@@ -1,107 +1,89 @@
-// Words and numbers on a page, one behind the other. Each call is told where what stands there ends, and answers where it ends now.
+// A page: words and numbers are put on it, one behind the other.
 #![tactic(auto)]
 
-ghost use Rattle.std.specs.Prelude.{◌≡◌, ◌+◌, ◌≤◌, ◌<◌, ◌++◌, length, get_or, take, drop};
+ghost use Rattle.std.specs.Prelude.{◌≡◌, ◌-◌, length};
 ghost use Rattle.lettering.specs.Line.{decimal};
-ghost use Rattle.page.specs.Page.{Puts, right_aligned, taken, sign_filled, filled, sign_room, room};
+ghost use Rattle.page.specs.Page.{Room, PutOn, right_aligned, filled, room};
 
 // The most digits that a number has.
-pub const DIGITS: usize = 20;
+const DIGITS: usize = 20;
 
-// Puts words on the page.
-pub fn put(page: &mut [u8], at: usize, words: &[u8]) -> usize
-    requires { at + length words.now ≤ length page.old }
-    ensures { Puts page.old at words.now result page.new }
-{
-    copy(words, &mut page[at..]);
-    at + words.len()
+// A page: bytes that are lent to it, and how many of them are used.
+#[derive(Drop)]
+pub struct Page<'a> {
+    bytes: &'a mut [u8],
+    used: usize,
 }
 
-// Copies bytes to the start of others, of which there are as many or more.
-fn copy(from: &[u8], to: &mut [u8])
-    requires { length from.now ≤ length to.old }
-    ensures len { length to.new ≡ length to.old }
-    ensures copied { to.new ≡ take (length from.now) from.now ++ drop (length from.now) to.old }
-{
-    to[..from.len()].copy_from_slice(from);
-}
-
-// Puts a number on the page, in decimal.
-pub fn put_number(page: &mut [u8], at: usize, n: usize) -> usize
-    requires { at + 20 ≤ length page.old }
-    ensures puts { Puts page.old at (decimal n) result page.new }
-    ensures upper_bound { result ≤ at + 20 }
-{
-    let mut digits = [0u8; 20];
-    let count = io::decimal(n as u64, &mut digits);
-    put(page, at, &digits[..count])
-}
-
-// Puts a number on the page so that it ends 12 places further on, or where it ends if it has more digits.
-pub fn put_right(page: &mut [u8], at: usize, n: usize) -> usize
-    requires { at + 20 ≤ length page.old }
-    ensures puts { Puts page.old at (right_aligned n) result page.new }
-    ensures upper_bound { result ≤ at + 20 }
-{
-    let mut digits = [0u8; 20];
-    let count = io::decimal(n as u64, &mut digits);
-    let blanks = [b' '; 12];
-    if count < 12 {
-        let begun = put(page, at, &blanks[count..]);
-        return put(page, begun, &digits[..count]);
+impl<'a> Page<'a> {
+    // An empty page.
+    pub fn new(bytes: &'a mut [u8]) -> Page<'a>
+        ensures same_reference { result.bytes.ghost_name ≡ bytes.entry.ghost_name }
+        ensures bytes { result.bytes.now ≡ bytes.old }
+        ensures used { result.used ≡ 0 }
+    {
+        Page { bytes, used: 0 }
     }
-    put(page, at, &digits[..count])
-}
 
-// The number at a place, or 0 where there is none.
-fn number_at(numbers: &[usize], k: usize) -> usize
-    ensures { result ≡ get_or numbers.now k 0 }
-{
-    if k < numbers.len() {
-        return numbers[k];
+    // How many bytes are used.
+    pub fn used(&self) -> usize
+        ensures { result ≡ self.now.used }
+    {
+        self.used
     }
-    0
-}
 
-// How many numbers are taken when a sign of a form is put, added to those that were taken before.
-fn past(k: usize, sign: u8) -> usize
-    requires { k < 18446744073709551615 }
-    ensures { result ≡ k + taken sign }
-{
-    if sign == b'@' {
-        return k + 1;
+    // How many bytes are left.
+    pub fn left(&self) -> usize
+        requires { Room 0 self.now }
+        ensures { result ≡ length self.now.bytes.now - self.now.used }
+    {
+        self.bytes.len() - self.used
     }
-    k
-}
 
-// Puts a sign of a form on the page: for @ the number.
-fn put_sign(page: &mut [u8], at: usize, sign: u8, n: usize) -> usize
-    requires { at + sign_room sign ≤ length page.old }
-    ensures puts { Puts page.old at (sign_filled sign n) result page.new }
-    ensures upper_bound { result ≤ at + sign_room sign }
-{
-    if sign == b'@' {
-        return put_number(page, at, n);
+    // Puts words on the page.
+    pub fn put(&mut self, words: &[u8])
+        requires { Room (length words.now) self.old }
+        ensures { PutOn (length words.now) self.old words.now self.new }
+    {
+        let end = self.used + words.len();
+        self.bytes[self.used..end].copy_from_slice(words);
+        self.used = end;
     }
-    let one = [sign];
-    put(page, at, &one)
-}
 
-// Puts a form on the page, with the numbers for its @s.
-pub fn put_form(page: &mut [u8], at: usize, form: &[u8], numbers: &[usize]) -> usize
-    requires { at + room form.now ≤ length page.old }
-    ensures puts { Puts page.old at (filled form.now numbers.now) result page.new }
-    ensures upper_bound { result ≤ at + room form.now }
-{
-    let mut end = at;
-    let mut k = 0;
-    let mut i = 0;
-    while i < form.len() {
-        let sign = form[i];
-        let n = number_at(numbers, k);
-        end = put_sign(page, end, sign, n);
-        k = past(k, sign);
-        i += 1;
+    // Puts a number on the page, in decimal. A `write!` would answer an error where there is no room: here the contract says that there is.
+    pub fn put_number(&mut self, n: usize)
+        requires { Room 20 self.old }
+        ensures { PutOn 20 self.old (decimal n) self.new }
+    {
+        let mut digits = [0u8; DIGITS];
+        let count = io::decimal(n as u64, &mut digits);
+        self.put(&digits[..count]);
     }
-    end
+
+    // Puts a number on the page so that it ends 12 places further on, or where it ends if it has more digits.
+    pub fn put_right(&mut self, n: usize)
+        requires { Room 20 self.old }
+        ensures { PutOn 20 self.old (right_aligned n) self.new }
+    {
+        let mut digits = [0u8; DIGITS];
+        let count = io::decimal(n as u64, &mut digits);
+        let blanks = [b' '; 12];
+        self.put(&blanks[count.min(12)..]);
+        self.put(&digits[..count]);
+    }
+
+    // Puts a form on the page, with the numbers for its @s, and 0 where they are not enough.
+    pub fn put_form(&mut self, form: &[u8], numbers: &[usize])
+        requires { Room (room form.now) self.old }
+        ensures { PutOn (room form.now) self.old (filled form.now numbers.now) self.new }
+    {
+        let mut numbers = numbers.iter();
+        for sign in form {
+            if *sign == b'@' {
+                self.put_number(numbers.next().copied().unwrap_or(0));
+            } else {
+                self.put(&[*sign]);
+            }
+        }
+    }
 }

@@ -1,14 +1,18 @@
 -- Laws of a line of a listing that is shown, which has an LF to be left out, and of the tally. Assumes nothing.
-use Rattle.std.specs.Prelude.{◌≡◌, Bool, true, false, cond, List, ℕ, ◌+◌, ◌-◌, ◌≤◌, ◌<◌, length, take, eqb}
-use Rattle.std.proofs.Common.{ap, arith, length-append, length-take-le, take-take}
+use Rattle.std.specs.Prelude.{◌≡◌, Bool, true, false, cond, List, ℕ, ◌+◌, ◌≤◌, ◌<◌, length, eqb}
+use Rattle.std.proofs.Common.{◌∙◌, arith, length-append}
 use Rattle.promise.specs.Answer.{Said, done, clean, cell, column, row, refused}
-use Rattle.lettering.specs.Line.{Holds, tile_line, stopped_line}
+use Rattle.lettering.specs.Line.{tile_line, stopped_line}
+use Rattle.page.specs.Page.{PutOn}
+use Rattle.page.specs.Then.{at_most}
+use Rattle.page.specs.declared.Page.{Page}
 use Rattle.picture.specs.declared.tally.Tally.{Tally}
 use Rattle.picture.specs.Tally.{Below, no_tiles, counted}
 
--- a line that holds a text is as long as the text
-pub held_length : {bytes : List ℕ} {count : ℕ} {text : List ℕ} → Holds bytes count text → count ≡ length text
-held_length {bytes} {count} h = omega (arith, length-take-le count bytes h.within, ap length h.is)
+-- a line that is put takes 112 bytes at most
+pub line_put : {page new : Page} {words line text : List ℕ} → words ≡ line → length words ≤ 112 → line ≡ text → PutOn (length words) page words new
+    → PutOn 112 page text new
+line_put is long says put = rw (is ∙ says) at (at_most 112 long put)
 
 -- no line is empty
 pub tile_some : (number p l : ℕ) (said : Said) → 0 < length (tile_line number p l said)
@@ -18,14 +22,6 @@ tile_some number p l said = simp length-append (omega arith)
 pub stopped_some : (n offset : ℕ) → 0 < length (stopped_line n offset)
 unfolding stopped_line
 stopped_some n offset = simp length-append (omega arith)
-
--- the line without its last byte
-module _ (bytes : List ℕ) (count : ℕ) (within : count ≤ length bytes) where
-  pub without_length : length (take (count - 1) bytes) ≡ count - 1
-  without_length = length-take-le (count - 1) bytes (omega arith)
-
-  pub without_last : take (count - 1) bytes ≡ take (length (take count bytes) - 1) (take count bytes)
-  without_last = rw (length-take-le count bytes within, take-take (count - 1) count bytes (omega arith))
 
 -- ---- the tally
 

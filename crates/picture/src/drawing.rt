@@ -1,204 +1,184 @@
 // The map of a reel as a drawing, in SVG: a square for each tile, 24 to a row, and before each row the offset of its first record. Shape
 // and colour both tell the state of a tile.
-ghost use Rattle.std.specs.Prelude.{◌≡◌, [], ◌∷◌, ◌+◌, ◌≤◌, ◌<◌, length, take};
+ghost use Rattle.std.specs.Prelude.{◌≡◌, [], ◌∷◌, ◌≤◌, ◌<◌, length};
 ghost use Rattle.size.specs.Refusal.{number_of};
-ghost use Rattle.promise.specs.Answer.{restore_said, cell};
-ghost use Rattle.page.specs.Page.{Puts, filled, room};
+ghost use Rattle.promise.specs.Answer.{repaired_said, restore_said, cell};
+ghost use Rattle.page.specs.Page.{Room, PutOn, filled, room};
 ghost use Rattle.picture.specs.Picture as picture;
 ghost use Rattle.picture.specs.Tally.{Below};
 
 use crate::signs::ROW;
 use crate::tally::Tally;
 use lettering::line;
-use page::{put, put_form};
-use promise::Restored;
+use lettering::line::Line;
+use page::Page;
+use promise::{Repaired, Restored};
 use size::Refusal;
 
 // Where a line of a tile is drawn, of 0 to `most`. A size below 3 and a line above 65535 do not occur.
+#[tactic(auto, unfolding(crate::specs::Picture::along))]
 fn along(most: usize, n: usize, p: usize) -> usize
     requires { most ≤ 25 }
     ensures value { result ≡ picture.along most n p }
     ensures upper_bound { result ≤ 2000000 }
 {
-    if p < 3 {
-        return 0;
+    if p < 3 || 65535 < n {
+        0
+    } else {
+        most * n / (p - 2)
     }
-    if 65535 < n {
-        return 0;
-    }
-    most * n / (p - 2)
 }
 
 // A dot for a cell.
-fn dot(r: usize, c: usize, p: usize, page: &mut [u8], at: usize) -> usize
-    requires { at + 114 ≤ length page.old }
-    ensures puts { Puts page.old at (picture.shape p (cell r c)) result page.new }
-    ensures upper_bound { result ≤ at + 114 }
+#[tactic(auto, using(page::specs::Then::at_most), unfolding(crate::specs::Picture::shape))]
+fn dot(r: usize, c: usize, p: usize, page: &mut Page)
+    requires { Room 114 page.old }
+    ensures { PutOn 114 page.old (picture.shape p (cell r c)) page.new }
 {
-    let numbers = [4 + along(20, c, p), 4 + along(20, r, p)];
-    put_form(
-        page,
-        at,
+    page.put_form(
         b"<path class=\"h\" d=\"M0 0h28v28h-28z\"/><circle class=\"b\" cx=\"@\" cy=\"@\" r=\"4\"/>",
-        &numbers,
-    )
+        &[4 + along(20, c, p), 4 + along(20, r, p)],
+    );
 }
 
 // A bar for a line, whose form is given.
-fn bar(form: &[u8], n: usize, p: usize, page: &mut [u8], at: usize) -> usize
-    requires { at + room form.now ≤ length page.old }
-    ensures puts { Puts page.old at (filled form.now (picture.along 25 n p ∷ [])) result page.new }
-    ensures upper_bound { result ≤ at + room form.now }
+fn bar(form: &[u8], n: usize, p: usize, page: &mut Page)
+    requires { Room (room form.now) page.old }
+    ensures { PutOn (room form.now) page.old (filled form.now (picture.along 25 n p ∷ [])) page.new }
 {
-    let numbers = [along(25, n, p)];
-    put_form(page, at, form, &numbers)
+    page.put_form(form, &[along(25, n, p)]);
 }
 
 // A question mark for what is doubtful, and a cross for what is refused by any other number.
-fn refused(number: usize, page: &mut [u8], at: usize) -> usize
-    requires { at + 114 ≤ length page.old }
-    ensures puts { Puts page.old at (picture.refused_shape number) result page.new }
-    ensures upper_bound { result ≤ at + 114 }
+#[tactic(auto, using(page::specs::Then::at_most), unfolding(crate::specs::Picture::refused_shape))]
+fn refused(no: Refusal, page: &mut Page)
+    requires { Room 114 page.old }
+    ensures { PutOn 114 page.old (picture.refused_shape (number_of no)) page.new }
 {
-    if number == 8 {
-        return put(
-            page,
-            at,
+    match no {
+        Refusal::Doubtful => page.put(
             b"<path class=\"d\" d=\"M0 0h28v28h-28z\"/><path class=\"x\" d=\"M9 11c0-7 10-7 10-1c0 4-5 4-5 7m0 3v3\"/>",
-        );
+        ),
+        _ => page.put(
+            b"<path class=\"r\" d=\"M0 0h28v28h-28z\"/><path class=\"x\" d=\"M6 6l16 16m0-16l-16 16\"/>",
+        ),
     }
-    put(
-        page,
-        at,
-        b"<path class=\"r\" d=\"M0 0h28v28h-28z\"/><path class=\"x\" d=\"M6 6l16 16m0-16l-16 16\"/>",
-    )
 }
 
-// The shape of a state.
-fn shape(p: usize, state: Restored, page: &mut [u8], at: usize) -> usize
-    requires { at + 114 ≤ length page.old }
-    ensures puts { Puts page.old at (picture.shape p (restore_said state)) result page.new }
-    ensures upper_bound { result ≤ at + 114 }
+// The shape of what was found in a tile.
+#[tactic(auto, using(page::specs::Then::at_most), unfolding(crate::specs::Picture::shape))]
+fn found(p: usize, found: Repaired, page: &mut Page)
+    requires { Room 114 page.old }
+    ensures { PutOn 114 page.old (picture.shape p (repaired_said found)) page.new }
 {
-    match state {
-        Restored::Clean => put(page, at, b"<path class=\"k\" d=\"M0 0h28v28h-28z\"/>"),
-        Restored::Cell(r, c) => dot(r, c, p, page, at),
-        Restored::Column(c) => bar(
+    match found {
+        Repaired::Clean => page.put(b"<path class=\"k\" d=\"M0 0h28v28h-28z\"/>"),
+        Repaired::Cell(r, c) => dot(r, c, p, page),
+        Repaired::Column(c) => bar(
             b"<path class=\"h\" d=\"M0 0h28v28h-28z\"/><path class=\"b\" d=\"M@ 0h3v28h-3z\"/>",
             c,
             p,
             page,
-            at,
         ),
-        Restored::Row(r) => bar(
+        Repaired::Row(r) => bar(
             b"<path class=\"h\" d=\"M0 0h28v28h-28z\"/><path class=\"b\" d=\"M0 @h28v3h-28z\"/>",
             r,
             p,
             page,
-            at,
         ),
-        Restored::Filled => put(
-            page,
-            at,
+    }
+}
+
+// The shape of a state.
+#[tactic(auto, using(page::specs::Then::at_most), unfolding(crate::specs::Picture::shape))]
+fn shape(p: usize, state: Result<Restored, Refusal>, page: &mut Page)
+    requires { Room 114 page.old }
+    ensures { PutOn 114 page.old (picture.shape p (restore_said state)) page.new }
+{
+    match state {
+        Ok(Restored::Repaired(repaired)) => found(p, repaired, page),
+        Ok(Restored::Filled) => page.put(
             b"<path class=\"f\" d=\"M0 0h28v28h-28z\"/><path class=\"i\" d=\"M8 8h12v12h-12z\"/>",
         ),
-        Restored::Refused(no) => refused(size::number(no), page, at),
+        Err(no) => refused(no, page),
     }
 }
 
 // The offset before a row, where the k-th square begins one.
-fn label(k: usize, offset: usize, page: &mut [u8], at: usize) -> usize
+#[tactic(auto, using(page::specs::Then::at_most, page::specs::Then::nothing_on), unfolding(crate::specs::Picture::label))]
+fn label(k: usize, offset: usize, page: &mut Page)
     requires k_bound { k ≤ 10000000000000000000 }
-    requires at_in_bounds { at + 76 ≤ length page.old }
-    ensures puts { Puts page.old at (picture.label k offset) result page.new }
-    ensures upper_bound { result ≤ at + 76 }
+    requires in_bounds { Room 76 page.old }
+    ensures { PutOn 76 page.old (picture.label k offset) page.new }
 {
     if k % ROW == 0 {
-        let numbers = [16 + 32 * (k / ROW) + 18, offset];
-        return put_form(
-            page,
-            at,
+        page.put_form(
             b"<text class=\"o\" x=\"88\" y=\"@\">@</text>\n",
-            &numbers,
+            &[16 + 32 * (k / ROW) + 18, offset],
         );
     }
-    at
 }
 
 // The beginning of the k-th square: the offset, if it begins a row, its place, and a line without its LF as the title. There are 32 units
 // to a square, behind 96 for the offsets and below 16 of margin.
-fn begin(k: usize, offset: usize, line: line::Line, page: &mut [u8], at: usize) -> usize
+fn begin(k: usize, offset: usize, line: &Line, page: &mut Page)
     requires k_bound { k ≤ 10000000000000000000 }
-    requires length_in_bounds { line.length ≤ length line.bytes }
-    requires length_nonzero { 0 < line.length }
-    requires at_in_bounds { at + 270 ≤ length page.old }
-    ensures puts { Puts page.old at (picture.begin k offset (take line.length line.bytes)) result page.new }
-    ensures upper_bound { result ≤ at + 270 }
+    requires length_nonzero { 0 < length line.now }
+    requires in_bounds { Room 270 page.old }
+    ensures { PutOn 270 page.old (picture.begin k offset line.now) page.new }
 {
-    let bytes = line.bytes;
-    let length = line.length - 1;
-    let numbers = [96 + 32 * (k % ROW), 16 + 32 * (k / ROW)];
-    let labelled = label(k, offset, page, at);
-    let begun = put_form(
-        page,
-        labelled,
+    let text = line.text();
+    label(k, offset, page);
+    page.put_form(
         b"<g transform=\"translate(@ @)\"><title>",
-        &numbers,
+        &[96 + 32 * (k % ROW), 16 + 32 * (k / ROW)],
     );
-    let titled = put(page, begun, &bytes[..length]);
-    put(page, titled, b"</title>")
+    page.put(&text[..text.len() - 1]);
+    page.put(b"</title>");
 }
 
 // The square of the k-th tile.
 pub fn square(
     k: usize,
     offset: usize,
-    line: line::Line,
+    line: &Line,
     p: usize,
-    state: Restored,
-    page: &mut [u8],
-    at: usize,
-) -> usize
+    state: Result<Restored, Refusal>,
+    page: &mut Page,
+)
     requires k_bound { k ≤ 10000000000000000000 }
-    requires length_in_bounds { line.length ≤ length line.bytes }
-    requires length_nonzero { 0 < line.length }
-    requires at_in_bounds { at + 389 ≤ length page.old }
-    ensures puts { Puts page.old at (picture.square k offset (take line.length line.bytes) p (restore_said state)) result page.new }
-    ensures upper_bound { result ≤ at + 389 }
+    requires length_nonzero { 0 < length line.now }
+    requires in_bounds { Room 389 page.old }
+    ensures { PutOn 389 page.old (picture.square k offset line.now p (restore_said state)) page.new }
 {
-    let begun = begin(k, offset, line, page, at);
-    let drawn = shape(p, state, page, begun);
-    put(page, drawn, b"</g>\n")
+    begin(k, offset, line, page);
+    shape(p, state, page);
+    page.put(b"</g>\n");
 }
 
 // The dashed square where the reel stopped, behind k tiles.
-pub fn stop(k: usize, offset: usize, no: Refusal, page: &mut [u8], at: usize) -> usize
+#[tactic(auto, using(crate::specs::Laws::stopped_some))]
+pub fn stop(k: usize, offset: usize, no: Refusal, page: &mut Page)
     requires k_bound { k ≤ 10000000000000000000 }
-    requires at_in_bounds { at + 369 ≤ length page.old }
-    ensures puts { Puts page.old at (picture.stop k (number_of no) offset) result page.new }
-    ensures upper_bound { result ≤ at + 369 }
+    requires in_bounds { Room 369 page.old }
+    ensures { PutOn 369 page.old (picture.stop k (number_of no) offset) page.new }
 {
-    let numbers = [size::number(no)];
-    let begun = begin(k, offset, line::stopped_line(no, offset), page, at);
-    put_form(
-        page,
-        begun,
+    begin(k, offset, &line::stopped_line(no, offset), page);
+    page.put_form(
         b"<path class=\"s\" d=\"M1 1h26v26h-26z\"/><text class=\"n\" x=\"14\" y=\"18\">@</text></g>\n",
-        &numbers,
-    )
+        &[size::number(no)],
+    );
 }
 
 // The drawing's first lines, for so many squares. The colours are light for what is well, and dark with white signs for what is not.
-pub fn head(squares: usize, page: &mut [u8], at: usize) -> usize
+#[tactic(auto, using(page::specs::Then::at_most), unfolding(crate::specs::Picture::head))]
+pub fn head(squares: usize, page: &mut Page)
     requires squares_bound { squares ≤ 10000000000000000000 }
-    requires at_in_bounds { at + 500 ≤ length page.old }
-    ensures { Puts page.old at (picture.head squares) result page.new }
+    requires in_bounds { Room 500 page.old }
+    ensures { PutOn 500 page.old (picture.head squares) page.new }
 {
     let height = 112 + 32 * ((squares + 23) / ROW);
-    let numbers = [height, height, height];
-    put_form(
-        page,
-        at,
+    page.put_form(
         b"<svg xmlns=\"http://www.w3.org/2000/svg\" width=\"872\" height=\"@\" viewBox=\"0 0 872 @\">\n\
         <style>\
         text{font:12px monospace;fill:#333}.o{text-anchor:end}.n{text-anchor:middle}.k{fill:#e0efe0}.h{fill:#efcb70}\
@@ -206,16 +186,17 @@ pub fn head(squares: usize, page: &mut [u8], at: usize) -> usize
         .x{fill:none;stroke:#fff;stroke-width:3}.s{fill:none;stroke:#b00020;stroke-width:2;stroke-dasharray:4 3}\
         </style>\n\
         <path fill=\"#fff\" d=\"M0 0h872v@h-872z\"/>\n",
-        &numbers,
-    )
+        &[height, height, height],
+    );
 }
 
 // The legend, four entries to a row, with how many squares have each shape, and the end of the drawing.
-pub fn foot(tally: Tally, stops: usize, page: &mut [u8], at: usize) -> usize
+#[tactic(auto, using(page::specs::Then::at_most), unfolding(crate::specs::Picture::foot))]
+pub fn foot(tally: Tally, stops: usize, page: &mut Page)
     requires below { Below 10000000000000000000 tally }
     requires stops_bound { stops ≤ 1 }
-    requires at_in_bounds { at + 2000 ≤ length page.old }
-    ensures { Puts page.old at (picture.foot tally stops) result page.new }
+    requires in_bounds { Room 2000 page.old }
+    ensures { PutOn 2000 page.old (picture.foot tally stops) page.new }
 {
     let upper = 32 + 32 * ((tally.tiles + stops + 23) / ROW);
     let lower = upper + 36;
@@ -237,9 +218,7 @@ pub fn foot(tally: Tally, stops: usize, page: &mut [u8], at: usize) -> usize
         lower,
         stops,
     ];
-    put_form(
-        page,
-        at,
+    page.put_form(
         b"<g transform=\"translate(96 @)\"><path class=\"k\" d=\"M0 0h28v28h-28z\"/>\
         <text x=\"36\" y=\"18\">clean @</text></g>\n\
         <g transform=\"translate(288 @)\"><path class=\"h\" d=\"M0 0h28v28h-28z\"/><circle class=\"b\" cx=\"14\" cy=\"14\" r=\"4\"/>\
@@ -258,5 +237,5 @@ pub fn foot(tally: Tally, stops: usize, page: &mut [u8], at: usize) -> usize
         <text x=\"36\" y=\"18\">stopped @</text></g>\n\
         </svg>\n",
         &numbers,
-    )
+    );
 }

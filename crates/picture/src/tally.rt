@@ -1,9 +1,11 @@
 // How many tiles of a reel there were, and how many of them were found in each state.
 ghost use Rattle.std.specs.Prelude.{◌≡◌};
+ghost use Rattle.code.specs.Says.{Says};
 ghost use Rattle.promise.specs.Answer.{restore_said};
 ghost use Rattle.picture.specs.Tally.{Below, no_tiles, counted};
 
-use promise::Restored;
+use promise::{Repaired, Restored};
+use size::Refusal;
 
 #[derive(Clone, Copy)]
 pub struct Tally {
@@ -17,42 +19,54 @@ pub struct Tally {
     pub doubtful: usize,
 }
 
-// The tally before the first tile.
-pub fn none() -> Tally
-    ensures { result ≡ no_tiles }
-{
-    Tally {
-        tiles: 0,
-        clean: 0,
-        cells: 0,
-        columns: 0,
-        rows: 0,
-        filled: 0,
-        refused: 0,
-        doubtful: 0,
-    }
-}
-
-// The tally with one more tile.
-pub fn with(tally: Tally, state: Restored) -> Tally
-    requires { Below 18446744073709551615 tally }
-    ensures { result ≡ counted tally (restore_said state) }
-{
-    let mut new = tally;
-    new.tiles += 1;
-    match state {
-        Restored::Clean => new.clean += 1,
-        Restored::Cell(_, _) => new.cells += 1,
-        Restored::Column(_) => new.columns += 1,
-        Restored::Row(_) => new.rows += 1,
-        Restored::Filled => new.filled += 1,
-        Restored::Refused(no) => {
-            if size::number(no) == 8 {
-                new.doubtful += 1;
-            } else {
-                new.refused += 1;
-            }
+impl Tally {
+    // The tally before the first tile.
+    pub fn new() -> Tally
+        ensures { result ≡ no_tiles }
+    {
+        Tally {
+            tiles: 0,
+            clean: 0,
+            cells: 0,
+            columns: 0,
+            rows: 0,
+            filled: 0,
+            refused: 0,
+            doubtful: 0,
         }
     }
-    new
+
+    // The tally with one more tile.
+    #[tactic(auto, unfolding(crate::specs::Tally::counted))]
+    pub fn with(self, state: Result<Restored, Refusal>) -> Tally
+        requires { Below 18446744073709551615 self }
+        ensures { result ≡ counted self (restore_said state) }
+    {
+        let mut new = self;
+        new.tiles += 1;
+        match state {
+            Ok(Restored::Repaired(Repaired::Clean)) => new.clean += 1,
+            Ok(Restored::Repaired(Repaired::Cell(_, _))) => new.cells += 1,
+            Ok(Restored::Repaired(Repaired::Column(_))) => new.columns += 1,
+            Ok(Restored::Repaired(Repaired::Row(_))) => new.rows += 1,
+            Ok(Restored::Filled) => new.filled += 1,
+            Err(Refusal::Doubtful) => new.doubtful += 1,
+            Err(_) => new.refused += 1,
+        }
+        new
+    }
+
+    // Is each count below a number?
+    pub fn is_below(self, most: usize) -> bool
+        ensures { Says result (Below most self) }
+    {
+        self.tiles < most
+            && self.clean < most
+            && self.cells < most
+            && self.columns < most
+            && self.rows < most
+            && self.filled < most
+            && self.refused < most
+            && self.doubtful < most
+    }
 }

@@ -1,13 +1,12 @@
 -- WHAT A READER MUST BELIEVE: what the call that lays a record promises (SPEC 7.7). Assumes nothing.
-use Rattle.std.specs.Prelude.{◌≡◌, List, ℕ, ◌+◌, ◌≤◌, length, take, drop}
+use Rattle.std.specs.Prelude.{◌≡◌, List, ℕ, ◌+◌, ◌≤◌, length, take, drop, Result, Ok, Err}
 use Rattle.size.specs.Answer as size
 use Rattle.size.specs.Refusal as refusal
+use Rattle.size.specs.declared.Refusal.{Refusal}
 use Rattle.promise.specs.Calls.{Admitted, TileLength}
 use Rattle.header.specs.Header.{kind_of, header_length, Carries}
 use Rattle.header.specs.Record.{RecordOf}
 use Rattle.header.specs.declared.Header.{Header}
-use Rattle.printer.specs.declared.Laid.{Laid}
-use Rattle.printer.specs.declared.Laid.TheVariants as answer
 
 -- SPEC 7.7: a record of so many bytes, or a refusal by its number
 pub data Said : Type 0 where
@@ -15,9 +14,9 @@ pub data Said : Type 0 where
   refused : ℕ → Said
 
 -- SPEC 7.7: what each answer of the call stands for
-abbrev pub laid_said : Laid → Said
-laid_said (answer.Record n) = laid n
-laid_said (answer.Refused r) = refused (refusal.number_of r)
+abbrev pub laid_said : Result ℕ Refusal → Said
+laid_said (Ok n) = laid n
+laid_said (Err r) = refused (refusal.number_of r)
 
 -- SPEC 7.7: how the call begins: refused 1 or 2 as the record's kind, p and l are judged, then 3 where the tile has another length
 abbrev pub Taken : Header → List ℕ → size.Said → Type 0

@@ -1,8 +1,7 @@
 -- How a record is laid: what is taken and carries its flags may be laid, two copies put it together, and then it stands first in the room.
 -- Assumes nothing.
 use Rattle.std.specs.Prelude.{◌≡◌, List, ◌++◌, ℕ, ◌+◌, ◌-◌, ◌≤◌, ◌<◌, length, take, drop}
-use Rattle.std.proofs.Common.{sym, ap, ap₂, ◌∙◌, subst, append_assoc, append-nil, mul-le-mul, arith, length-append, length-drop, drop_of_length-le, length-take-le, take_all, drop-drop, take_at, drop_at}
-use Rattle.std.proofs.Math.Seq.{take-length}
+use Rattle.std.proofs.Common.{sym, ap, ap₂, ◌∙◌, subst, append_assoc, mul-le-mul, arith, length-append, length-drop, length-take-le, drop-drop, take_at, drop_at}
 use Rattle.size.specs.Answer as size
 use Rattle.promise.specs.Admit.{admitted_well}
 use Rattle.header.specs.Header.{header_length, Carries}
@@ -41,32 +40,20 @@ module _ (h : Header) (tile room : List ℕ) where
 
 -- ---- two copies put it together
 
--- some bytes are copied into a room, and a tile into the part of it behind them
-module _ (bytes tile room first part : List ℕ) (start : ℕ) (long : length bytes ≡ start) (fits : start + length tile ≤ length room)
-    (one : first ≡ take (length bytes) bytes ++ drop (length bytes) room)
-    (two : part ≡ take (length tile) tile ++ drop (length tile) (take (length first - start) (drop start first))) where
-  first_is : first ≡ bytes ++ drop start room
-  first_is = one ∙ ap₂ ◌++◌ (take-length bytes) (ap (λ (n : ℕ). drop n room) long)
+-- some bytes are copied to the start of a room, and a tile behind them
+module _ (bytes tile room : List ℕ) (start : ℕ) (long : length bytes ≡ start) where
+  -- the room in between
+  abbrev first : List ℕ
+  first = bytes ++ drop start room
 
-  first_long : length first ≡ length room
-  first_long = ap length first_is ∙ length-append bytes (drop start room) ∙ omega (arith, length-drop start room)
+  behind_is : drop (start + length tile - start) (drop start first) ≡ drop (start + length tile) room
+  behind_is =
+      let count : start + length tile - start ≡ length tile = omega arith in
+      ap₂ drop count (drop_at bytes (drop start room) start long) ∙ drop-drop (length tile) start room
 
-  behind_is : drop start first ≡ drop start room
-  behind_is = ap (drop start) first_is ∙ drop_at bytes (drop start room) start long
-
-  -- the part is what stands there to the end of the room
-  whole_part : take (length first - start) (drop start first) ≡ drop start room
-  whole_part = take_all (length first - start) (drop start first) (omega (arith, length-drop start first)) ∙ behind_is
-
-  part_is : part ≡ tile ++ drop (start + length tile) room
-  part_is = two ∙ ap₂ ◌++◌ (take-length tile) (ap (drop (length tile)) whole_part ∙ drop-drop (length tile) start room)
-
-  nothing_behind : part ++ drop (length first - start) (drop start first) ≡ part
-  nothing_behind = ap (λ (x : List ℕ). part ++ x) (drop_of_length-le (drop start first) {i = length first - start} (omega (arith, length-drop start first))) ∙ append-nil part
-
-  copied : take start first ++ (part ++ drop (length first - start) (drop start first)) ≡ (bytes ++ tile) ++ drop (start + length tile) room
+  copied : take start first ++ (tile ++ drop (start + length tile - start) (drop start first)) ≡ (bytes ++ tile) ++ drop (start + length tile) room
   copied =
-      ap₂ ◌++◌ (ap (take start) first_is ∙ take_at bytes (drop start room) start long) (nothing_behind ∙ part_is)
+      ap₂ ◌++◌ (take_at bytes (drop start room) start long) (ap (λ (xs : List ℕ). tile ++ xs) behind_is)
       ∙ sym (append_assoc bytes tile (drop (start + length tile) room))
 
 -- as many bytes of the header as count
@@ -78,15 +65,15 @@ module _ (h : Header) (start : ℕ) (bytes : List ℕ) (counts : start ≡ heade
   so_many = length-take-le start bytes enough
 
   -- so where these are copied, and behind them a tile, its record is laid
-  pub ends_laid : (tile room first part : List ℕ) → Taken h tile size.well → Carries h → Fit h tile → start + length tile ≤ length room
-      → first ≡ take (length (take start bytes)) (take start bytes) ++ drop (length (take start bytes)) room
-      → part ≡ take (length tile) tile ++ drop (length tile) (take (length first - start) (drop start first))
-      → LayTold h tile room (laid (start + length tile)) (take start first ++ (part ++ drop (length first - start) (drop start first)))
-  ends_laid tile room first part taken carries fit fits one two =
-      let new = take start first ++ (part ++ drop (length first - start) (drop start first)) in
+  pub ends_laid : (tile room one two : List ℕ) → Taken h tile size.well → Carries h → Fit h tile → start + length tile ≤ length room
+      → one ≡ take start bytes → two ≡ tile
+      → LayTold h tile room (laid (start + length tile)) (take start (one ++ drop start room) ++ (two ++ drop (start + length tile - start) (drop start (one ++ drop start room))))
+  ends_laid tile room one two taken carries fit fits is_one is_two =
+      let new = take start (take start bytes ++ drop start room) ++ (tile ++ drop (start + length tile - start) (drop start (take start bytes ++ drop start room))) in
       let is : new ≡ laid_room h tile room =
-      copied (take start bytes) tile room first part start so_many fits one two
+      copied (take start bytes) tile room start so_many
       ∙ ap₂ (λ (n : ℕ) (xs : List ℕ). (take n xs ++ tile) ++ drop (n + length tile) room) counts of in
       let room_for_it : record_length h tile ≤ length room = omega (arith, counts) in
-      subst (λ (n : ℕ). LayTold h tile room (laid (n + length tile)) new) (sym counts)
-      (lays taken carries room_for_it (subst (LaidFirst h tile room (record_length h tile)) (sym is) (made_laid h tile room fit room_for_it)))
+      rw (is_one, is_two)
+      (subst (λ (n : ℕ). LayTold h tile room (laid (n + length tile)) new) (sym counts)
+      (lays taken carries room_for_it (subst (LaidFirst h tile room (record_length h tile)) (sym is) (made_laid h tile room fit room_for_it))))

@@ -1,18 +1,17 @@
 -- The contract settles the answer and the room: two outcomes of laying a record that are allowed for the same input are the same.
 -- Assumes nothing.
-use Rattle.std.specs.Prelude.{◌≡◌, refl, List, ◌++◌, ℕ}
+use Rattle.std.specs.Prelude.{◌≡◌, refl, List, ◌++◌, ℕ, Result, Ok, Err}
 use Rattle.std.proofs.Common.{sym, ap, ap₂, ◌∙◌, take-append-drop}
 use Rattle.size.specs.Answer as size
 use Rattle.size.specs.Refusal.{number_of}
 use Rattle.size.specs.Once.{number_once}
+use Rattle.size.specs.declared.Refusal.{Refusal}
 use Rattle.promise.specs.Calls.{TileLength}
 use Rattle.promise.specs.Admit.{admitted_well, admitted_no, admitted_once}
 use Rattle.header.specs.Header.{kind_of}
 use Rattle.header.specs.Laid.{record_once}
 use Rattle.header.specs.declared.Header.{Header}
 use Rattle.printer.specs.Lay.{Said, refused, laid_said, Taken, LaidFirst, LayTold, refuses, no_line, no_room, lays}
-use Rattle.printer.specs.declared.Laid.{Laid}
-use Rattle.printer.specs.declared.Laid.TheVariants as answer
 
 module _ (h : Header) (tile room : List ℕ) where
   -- one number refuses a record, and none does that is taken
@@ -47,13 +46,13 @@ module _ (h : Header) (tile room : List ℕ) where
   lay_told_once a b x y (lays w c r s) (lays v d q t) = (refl, laid_once _ x y s t)
 
 -- one answer says it
-laid_said_once : (a b : Laid) → laid_said a ≡ laid_said b → a ≡ b
-laid_said_once (answer.Record n) (answer.Record m) e = cc
-laid_said_once (answer.Record n) (answer.Refused s) e = cc
-laid_said_once (answer.Refused r) (answer.Record m) e = cc
-laid_said_once (answer.Refused r) (answer.Refused s) e = let n : number_of r ≡ number_of s = cc in ap answer.Refused (number_once r s n)
+laid_said_once : (a b : Result ℕ Refusal) → laid_said a ≡ laid_said b → a ≡ b
+laid_said_once (Ok n) (Ok m) e = cc
+laid_said_once (Ok n) (Err s) e = cc
+laid_said_once (Err r) (Ok m) e = cc
+laid_said_once (Err r) (Err s) e = let n : number_of r ≡ number_of s = cc in ap Err (number_once r s n)
 
 -- LAY HAS ONE RIGHT ANSWER, and leaves one room
-pub lay_once : (h : Header) (tile room : List ℕ) (a b : Laid) (x y : List ℕ) → LayTold h tile room (laid_said a) x → LayTold h tile room (laid_said b) y
+pub lay_once : (h : Header) (tile room : List ℕ) (a b : Result ℕ Refusal) (x y : List ℕ) → LayTold h tile room (laid_said a) x → LayTold h tile room (laid_said b) y
     → (a ≡ b) × (x ≡ y)
 lay_once h tile room a b x y t u = let e = lay_told_once h tile room (laid_said a) (laid_said b) x y t u in (laid_said_once a b e.0, e.1)

@@ -1,9 +1,7 @@
--- WHAT A READER MUST BELIEVE: the answer that each case of the enums `Outcome`, `Repaired` and `Restored` stands for (SPEC 5 and 7.6).
--- Assumes nothing.
-use Rattle.std.specs.Prelude.{ℕ}
+-- WHAT A READER MUST BELIEVE: what the answers of the tile calls stand for, case by case (SPEC 5 and 7.6). Assumes nothing.
+use Rattle.std.specs.Prelude.{ℕ, Result, Ok, Err}
 use Rattle.size.specs.Refusal.{number_of}
-use Rattle.promise.specs.declared.Outcome.{Outcome}
-use Rattle.promise.specs.declared.Outcome.TheVariants as outcome
+use Rattle.size.specs.declared.Refusal.{Refusal}
 use Rattle.promise.specs.declared.Repaired.{Repaired}
 use Rattle.promise.specs.declared.Repaired.TheVariants as repair
 use Rattle.promise.specs.declared.Restored.{Restored}
@@ -19,23 +17,24 @@ pub data Said : Type 0 where
   row : ℕ → Said
   refused : ℕ → Said
 
--- SPEC 5 and 5.3: what each answer of write, read, fill and judge stands for, and each of repair, inspect and recover
-abbrev pub outcome_said : Outcome → Said
-outcome_said outcome.Done = done
-outcome_said (outcome.Refused r) = refused (number_of r)
+-- SPEC 5: what each answer of write, read, fill and judge stands for
+abbrev pub outcome_said : Result Unit Refusal → Said
+outcome_said (Ok unit) = done
+outcome_said (Err r) = refused (number_of r)
 
-abbrev pub repair_said : Repaired → Said
-repair_said repair.Clean = clean
-repair_said (repair.Cell r c) = cell r c
-repair_said (repair.Column c) = column c
-repair_said (repair.Row r) = row r
-repair_said (repair.Refused r) = refused (number_of r)
+-- SPEC 5.3: what was found, and each answer of repair, inspect and recover
+abbrev pub repaired_said : Repaired → Said
+repaired_said repair.Clean = clean
+repaired_said (repair.Cell r c) = cell r c
+repaired_said (repair.Column c) = column c
+repaired_said (repair.Row r) = row r
+
+abbrev pub repair_said : Result Repaired Refusal → Said
+repair_said (Ok found) = repaired_said found
+repair_said (Err r) = refused (number_of r)
 
 -- SPEC 7.6: what each answer of restoring a tile stands for; filled is what fill says when it is done
-abbrev pub restore_said : Restored → Said
-restore_said restore.Clean = clean
-restore_said (restore.Cell r c) = cell r c
-restore_said (restore.Column c) = column c
-restore_said (restore.Row r) = row r
-restore_said restore.Filled = done
-restore_said (restore.Refused r) = refused (number_of r)
+abbrev pub restore_said : Result Restored Refusal → Said
+restore_said (Ok (restore.Repaired found)) = repaired_said found
+restore_said (Ok restore.Filled) = done
+restore_said (Err r) = refused (number_of r)

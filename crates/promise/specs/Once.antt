@@ -1,5 +1,5 @@
 -- The contracts settle the answers and the bytes: two outcomes that are allowed for the same input are the same. Assumes nothing.
-use Rattle.std.specs.Prelude.{◌≡◌, refl, List, ℕ}
+use Rattle.std.specs.Prelude.{◌≡◌, refl, List, ℕ, Result, Ok, Err}
 use Rattle.std.proofs.Common.{sym, ap, ap₂, ◌∙◌}
 use Rattle.residue.specs.Size.{Size}
 use Rattle.code.specs.Slope.{Slope}
@@ -14,13 +14,11 @@ use Rattle.size.specs.Answer as size
 use Rattle.size.specs.Answer.{judgement_said}
 use Rattle.size.specs.Refusal.{number_of}
 use Rattle.size.specs.Once.{refusal_of, back, number_once, judgement_said_once}
-use Rattle.size.specs.declared.Judgement.{Judgement}
+use Rattle.size.specs.declared.Refusal.{Refusal}
 use Rattle.promise.specs.Answer.{Said, done, clean, cell, column, row, refused, outcome_said, repair_said}
 use Rattle.promise.specs.Calls.{Admitted, TileLength, BothLengths, TwoLengths, WriteTold, ReadTold, Looked, ByLine, Named, RepairTold, InspectTold, Granted, RecoverTold, Has, Done, FillTold, JudgeTold}
 use Rattle.promise.specs.Admit.{admitted_well, admitted_no, admitted_once}
 use Rattle.promise.specs.Name.{named_once}
-use Rattle.promise.specs.declared.Outcome.{Outcome}
-use Rattle.promise.specs.declared.Outcome.TheVariants as outcome
 use Rattle.promise.specs.declared.Repaired.{Repaired}
 use Rattle.promise.specs.declared.Repaired.TheVariants as repair
 
@@ -235,75 +233,75 @@ module _ (p l : ℕ) (scan restored : List ℕ) (a b : Line) where
 -- ---- the same of the enums that the calls answer
 
 -- one answer of write, read, fill or judge says it ..
-outcome_said_once : (a b : Outcome) → outcome_said a ≡ outcome_said b → a ≡ b
-outcome_said_once outcome.Done outcome.Done e = refl
-outcome_said_once outcome.Done (outcome.Refused s) e = cc
-outcome_said_once (outcome.Refused r) outcome.Done e = cc
-outcome_said_once (outcome.Refused r) (outcome.Refused s) e = let n : number_of r ≡ number_of s = cc in ap outcome.Refused (number_once r s n)
+outcome_said_once : (a b : Result Unit Refusal) → outcome_said a ≡ outcome_said b → a ≡ b
+outcome_said_once (Ok d) (Ok d') e = refl
+outcome_said_once (Ok d) (Err s) e = cc
+outcome_said_once (Err r) (Ok d) e = cc
+outcome_said_once (Err r) (Err s) e = let n : number_of r ≡ number_of s = cc in ap Err (number_once r s n)
 
 -- .. and one of repair, inspect or recover: the one that says s (`done` is no answer of theirs) says it
-abbrev answer_of : Said → Repaired
-answer_of done = repair.Clean
-answer_of clean = repair.Clean
-answer_of (cell r c) = repair.Cell r c
-answer_of (column c) = repair.Column c
-answer_of (row r) = repair.Row r
-answer_of (refused n) = repair.Refused (refusal_of n)
+abbrev answer_of : Said → Result Repaired Refusal
+answer_of done = Ok repair.Clean
+answer_of clean = Ok repair.Clean
+answer_of (cell r c) = Ok (repair.Cell r c)
+answer_of (column c) = Ok (repair.Column c)
+answer_of (row r) = Ok (repair.Row r)
+answer_of (refused n) = Err (refusal_of n)
 
-answer_back : (a : Repaired) → answer_of (repair_said a) ≡ a
-answer_back repair.Clean = refl
-answer_back (repair.Cell r c) = refl
-answer_back (repair.Column c) = refl
-answer_back (repair.Row r) = refl
-answer_back (repair.Refused r) = ap repair.Refused (back r)
+answer_back : (a : Result Repaired Refusal) → answer_of (repair_said a) ≡ a
+answer_back (Ok repair.Clean) = refl
+answer_back (Ok (repair.Cell r c)) = refl
+answer_back (Ok (repair.Column c)) = refl
+answer_back (Ok (repair.Row r)) = refl
+answer_back (Err r) = ap Err (back r)
 
-repair_said_once : (a b : Repaired) → repair_said a ≡ repair_said b → a ≡ b
+repair_said_once : (a b : Result Repaired Refusal) → repair_said a ≡ repair_said b → a ≡ b
 repair_said_once a b e = sym (answer_back a) ∙ ap answer_of e ∙ answer_back b
 
 -- so where one outcome is allowed, one answer is right
-outcome_single : (R : Said → List ℕ → Type 0) → Single R → (a b : Outcome) (x y : List ℕ) → R (outcome_said a) x → R (outcome_said b) y
+outcome_single : (R : Said → List ℕ → Type 0) → Single R → (a b : Result Unit Refusal) (x y : List ℕ) → R (outcome_said a) x → R (outcome_said b) y
     → (a ≡ b) × (x ≡ y)
 outcome_single R f a b x y t u = let e = f (outcome_said a) (outcome_said b) x y t u in (outcome_said_once a b e.0, e.1)
 
-repaired_single : (R : Said → List ℕ → Type 0) → Single R → (a b : Repaired) (x y : List ℕ) → R (repair_said a) x → R (repair_said b) y
+repaired_single : (R : Said → List ℕ → Type 0) → Single R → (a b : Result Repaired Refusal) (x y : List ℕ) → R (repair_said a) x → R (repair_said b) y
     → (a ≡ b) × (x ≡ y)
 repaired_single R f a b x y t u = let e = f (repair_said a) (repair_said b) x y t u in (repair_said_once a b e.0, e.1)
 
 -- a judgement of a kind, a size, a slope and a length has one right answer
-pub judge_tile_once : (k : Kind) (p l cells : ℕ) (a b : Judgement) → Admitted k p l (cells ≡ tile_length p) (judgement_said a) → Admitted k p l (cells ≡ tile_length p) (judgement_said b) → a ≡ b
+pub judge_tile_once : (k : Kind) (p l cells : ℕ) (a b : Result Unit Refusal) → Admitted k p l (cells ≡ tile_length p) (judgement_said a) → Admitted k p l (cells ≡ tile_length p) (judgement_said b) → a ≡ b
 judge_tile_once k p l cells a b t u = judgement_said_once a b (admitted_once k p l (cells ≡ tile_length p) (judgement_said a) (judgement_said b) t u)
 
 -- a write has one right answer, and leaves one tile
-pub write_once : (k : Kind) (p l : ℕ) (text tile : List ℕ) (a b : Outcome) (x y : List ℕ)
+pub write_once : (k : Kind) (p l : ℕ) (text tile : List ℕ) (a b : Result Unit Refusal) (x y : List ℕ)
     → WriteTold k p l text tile (outcome_said a) x → WriteTold k p l text tile (outcome_said b) y → (a ≡ b) × (x ≡ y)
 write_once k p l text tile = outcome_single (WriteTold k p l text tile) (write_told_once k p l text tile)
 
 -- a read has one right answer, and leaves one text
-pub read_once : (k : Kind) (p l : ℕ) (tile text : List ℕ) (a b : Outcome) (x y : List ℕ)
+pub read_once : (k : Kind) (p l : ℕ) (tile text : List ℕ) (a b : Result Unit Refusal) (x y : List ℕ)
     → ReadTold k p l tile text (outcome_said a) x → ReadTold k p l tile text (outcome_said b) y → (a ≡ b) × (x ≡ y)
 read_once k p l tile text = outcome_single (ReadTold k p l tile text) (read_told_once k p l tile text)
 
 -- a repair has one right answer, and leaves one tile
-pub repair_once : (k : Kind) (p l : ℕ) (tile : List ℕ) (a b : Repaired) (x y : List ℕ)
+pub repair_once : (k : Kind) (p l : ℕ) (tile : List ℕ) (a b : Result Repaired Refusal) (x y : List ℕ)
     → RepairTold k p l tile (repair_said a) x → RepairTold k p l tile (repair_said b) y → (a ≡ b) × (x ≡ y)
 repair_once k p l tile = repaired_single (RepairTold k p l tile) (repair_told_once k p l tile)
 
 -- an inspection has one right answer
-pub inspect_once : (k : Kind) (p l : ℕ) (scan : List ℕ) (a b : Repaired) → InspectTold k p l scan (repair_said a) → InspectTold k p l scan (repair_said b)
+pub inspect_once : (k : Kind) (p l : ℕ) (scan : List ℕ) (a b : Result Repaired Refusal) → InspectTold k p l scan (repair_said a) → InspectTold k p l scan (repair_said b)
     → a ≡ b
 inspect_once k p l scan a b t u = repair_said_once a b (inspect_told_once k p l scan (repair_said a) (repair_said b) t u)
 
 -- a recovery has one right answer, and leaves one text
-pub recover_once : (k : Kind) (p l : ℕ) (scan text : List ℕ) (a b : Repaired) (x y : List ℕ)
+pub recover_once : (k : Kind) (p l : ℕ) (scan text : List ℕ) (a b : Result Repaired Refusal) (x y : List ℕ)
     → RecoverTold k p l scan text (repair_said a) x → RecoverTold k p l scan text (repair_said b) y → (a ≡ b) × (x ≡ y)
 recover_once k p l scan text = repaired_single (RecoverTold k p l scan text) (recover_told_once k p l scan text)
 
 -- a filling of flagged lines has one right answer, and leaves one tile
-pub fill_once : (k : Kind) (p l : ℕ) (tile : List ℕ) (a b : Line) (c d : Outcome) (x y : List ℕ)
+pub fill_once : (k : Kind) (p l : ℕ) (tile : List ℕ) (a b : Line) (c d : Result Unit Refusal) (x y : List ℕ)
     → FillTold k p l tile a b (outcome_said c) x → FillTold k p l tile a b (outcome_said d) y → (c ≡ d) × (x ≡ y)
 fill_once k p l tile a b = outcome_single (FillTold k p l tile a b) (fill_told_once k p l tile a b)
 
 -- a restored tile has one right judgement
-pub judge_once : (p l : ℕ) (scan restored : List ℕ) (a b : Line) (c d : Outcome)
+pub judge_once : (p l : ℕ) (scan restored : List ℕ) (a b : Line) (c d : Result Unit Refusal)
     → JudgeTold p l scan restored a b (outcome_said c) → JudgeTold p l scan restored a b (outcome_said d) → c ≡ d
 judge_once p l scan restored a b c d t u = outcome_said_once c d (judge_told_once p l scan restored a b (outcome_said c) (outcome_said d) t u)

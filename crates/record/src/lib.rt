@@ -8,12 +8,12 @@ ghost use Rattle.record.specs.Number.{big_endian, big_endian_long};
 pub fn number(high: u8, low: u8) -> usize
     ensures { result ≡ big_endian high low }
 {
-    high as usize * 256 + low as usize
+    usize::from(u16::from_be_bytes([high, low]))
 }
 
 // A number of four bytes, the high ones first.
 pub fn long_number(first: u8, second: u8, third: u8, fourth: u8) -> u32
     ensures { result ≡ big_endian_long first second third fourth }
 {
-    (number(first, second) * 65536 + number(third, fourth)) as u32
+    u32::from_be_bytes([first, second, third, fourth])
 }

@@ -1,6 +1,7 @@
 -- WHAT A READER MUST BELIEVE: the answer that each case of the enum `Found` stands for (SPEC 7.2). Assumes nothing.
-use Rattle.std.specs.Prelude.{ℕ, ◌+◌}
+use Rattle.std.specs.Prelude.{ℕ, ◌+◌, Result, Ok, Err}
 use Rattle.size.specs.Refusal as refusal
+use Rattle.size.specs.declared.Refusal.{Refusal}
 use Rattle.header.specs.Header.{kind_of, header_length}
 use Rattle.header.specs.declared.Header.{Header}
 use Rattle.reel.specs.declared.Tile.{Tile}
@@ -19,6 +20,11 @@ abbrev pub found_said : Found → Said
 found_said (found.Tile t) = tile t
 found_said found.End = end
 found_said (found.Refused r at) = refused (refusal.number_of r) at
+
+-- SPEC 7.2: what stands for a tile that was looked for at a place, or for the refusal of what stands there
+abbrev pub said_at : ℕ → Result Tile Refusal → Said
+said_at at (Ok t) = tile t
+said_at at (Err r) = refused (refusal.number_of r) at
 
 -- SPEC 7.2: the tile whose record has this header, and stands at this place
 abbrev pub tile_of : Header → ℕ → Tile

@@ -1,11 +1,10 @@
 -- Wrong programs, each broken by a theorem: no such program meets its contract. Assumes nothing.
-use Rattle.std.specs.Prelude.{◌≡◌, refl, List, [], ◌∷◌, ℕ, length, drop}
+use Rattle.std.specs.Prelude.{◌≡◌, refl, List, [], ◌∷◌, ℕ, length, drop, Option, None}
 use Rattle.std.proofs.Common.{sym, ap, ◌∙◌, subst, arith}
 use Rattle.std.specs.Borrow.{Bor}
+use Rattle.code.specs.declared.Line.{Line}
 use Rattle.code.specs.declared.Kind.{Kind}
 use Rattle.code.specs.declared.Kind.TheVariants.{New, Old}
-use Rattle.flag.specs.declared.Flag.{Flag}
-use Rattle.flag.specs.declared.Flag.TheVariants.{None}
 use Rattle.header.specs.Header.{Marked}
 use Rattle.header.specs.declared.Mark.{Mark}
 use Rattle.header.specs.declared.Mark.TheVariants as mark
@@ -97,13 +96,13 @@ ten_bytes t e told =
 pub tells_none : NextTold flag_case 0 (tile (flagged_tile 9 5 2 None None 14)) → ⊥
 tells_none told =
     let same = tile_once (next_told_once flag_case 0 (tile (flagged_tile 9 5 2 None None 14)) (tile (flagged_tile 9 5 2 row_0 column_0 14)) told crossed) in
-    let flags : ◌≡◌ {A = Flag} None row_0 = ap (λ (x : Tile). x.first) same in let z : ◌≡◌ {A = ℕ} 0 1 = cc in omega arith
+    let flags : ◌≡◌ {A = Option Line} None row_0 = ap (λ (x : Tile). x.first) same in let z : ◌≡◌ {A = ℕ} 0 1 = cc in omega arith
 
 -- one that tells the second flag first
 pub tells_exchanged : NextTold flag_case 0 (tile (flagged_tile 9 5 2 column_0 row_0 14)) → ⊥
 tells_exchanged told =
     let same = tile_once (next_told_once flag_case 0 (tile (flagged_tile 9 5 2 column_0 row_0 14)) (tile (flagged_tile 9 5 2 row_0 column_0 14)) told crossed) in
-    let flags : ◌≡◌ {A = Flag} column_0 row_0 = ap (λ (x : Tile). x.first) same in let z : ◌≡◌ {A = ℕ} 0 1 = cc in omega arith
+    let flags : ◌≡◌ {A = Option Line} column_0 row_0 = ap (λ (x : Tile). x.first) same in let z : ◌≡◌ {A = ℕ} 0 1 = cc in omega arith
 
 -- one that judges a flag after the body: of a header with a wrong flag, behind which the tile is missing, it says 7
 pub flag_after_body : NextTold flag_case 176 (refused 7 176) → ⊥

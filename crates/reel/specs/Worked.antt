@@ -1,7 +1,8 @@
 -- SPEC 10: the whole reel, byte by byte, and what a walk along it lists; a reel on which an old record stands before it; and the reel with
 -- flags. Assumes nothing.
-use Rattle.std.specs.Prelude.{refl, List, [], ◌∷◌, ◌++◌, ℕ, ◌+◌}
+use Rattle.std.specs.Prelude.{refl, List, [], ◌∷◌, ◌++◌, ℕ, ◌+◌, Option, Some, None}
 use Rattle.std.proofs.Common.{arith, lit<, lit≤}
+use Rattle.code.specs.declared.Line.{Line}
 use Rattle.code.specs.declared.Kind.{Kind}
 use Rattle.code.specs.declared.Kind.TheVariants.{New, Old}
 use Rattle.code.specs.declared.Line.TheVariants.{Row, Column}
@@ -10,8 +11,6 @@ use Rattle.size.specs.Answer.{well, Judged, taken, no_slope}
 use Rattle.size.specs.Shams.{size_5, size_7, at_5_2, new_as_old}
 use Rattle.promise.specs.Worked.{zeros, tile_4, tile_6, tile_9}
 use Rattle.flag.specs.Flag.{line_of, flag_of}
-use Rattle.flag.specs.declared.Flag.{Flag}
-use Rattle.flag.specs.declared.Flag.TheVariants.{None, Lost}
 use Rattle.header.specs.Same.{header_there}
 use Rattle.header.specs.declared.Mark.TheVariants as mark
 use Rattle.reel.specs.Answer.{tile, end, refused}
@@ -20,7 +19,7 @@ use Rattle.reel.specs.Walk.{WalkByPlace, goes_on, stops}
 use Rattle.reel.specs.declared.Tile.{Tile}
 
 -- a tile with this kind, number, size and slope, and with its bytes at this offset, that has these flags, or none
-abbrev pub flagged_tile : ℕ → ℕ → ℕ → Flag → Flag → ℕ → Tile
+abbrev pub flagged_tile : ℕ → ℕ → ℕ → Option Line → Option Line → ℕ → Tile
 flagged_tile number p l first second from = record { kind = New; number = number; p = p; l = l; first = first; second = second; at = from }
 
 abbrev pub plain_tile : Kind → ℕ → ℕ → ℕ → ℕ → Tile
@@ -107,14 +106,14 @@ flag_case =
     ++ (0xD5 ∷ 0x5E ∷ 0 ∷ 5 ∷ 0 ∷ 2 ∷ 0 ∷ 0 ∷ 0 ∷ 15 ∷ 0 ∷ 4 ∷ 0xFF ∷ 0xFF ∷ [])
 
 -- the flags that stand there
-abbrev pub row_0 : Flag
-row_0 = Lost (Row 0)
+abbrev pub row_0 : Option Line
+row_0 = Some (Row 0)
 
-abbrev pub column_0 : Flag
-column_0 = Lost (Column 0)
+abbrev pub column_0 : Option Line
+column_0 = Some (Column 0)
 
-abbrev pub column_3 : Flag
-column_3 = Lost (Column 3)
+abbrev pub column_3 : Option Line
+column_3 = Some (Column 3)
 
 pub crossed : NextTold flag_case 0 (tile (flagged_tile 9 5 2 row_0 column_0 14))
 unfolding flag_of line_of

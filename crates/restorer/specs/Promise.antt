@@ -1,5 +1,5 @@
 -- WHAT A FLAG PROMISES (SPEC 7.6): a new tile with one is never doubtful, and what it lost is restored. Assumes nothing.
-use Rattle.std.specs.Prelude.{◌≡◌, refl, ◌⊎◌, ◌↔◌, List, ℕ}
+use Rattle.std.specs.Prelude.{◌≡◌, refl, ◌⊎◌, ◌↔◌, List, ℕ, Option, Some, None}
 use Rattle.std.proofs.Common.{inl, inr}
 use Rattle.code.specs.Tile.{Good, EqualOutsideBoth, Fills}
 use Rattle.code.specs.Count as count
@@ -8,8 +8,6 @@ use Rattle.code.specs.Fillings.{Sure, fills_once, fills_sure}
 use Rattle.code.specs.declared.Kind.{Kind}
 use Rattle.code.specs.declared.Kind.TheVariants.{New}
 use Rattle.code.specs.declared.Line.{Line}
-use Rattle.flag.specs.declared.Flag.{Flag}
-use Rattle.flag.specs.declared.Flag.TheVariants.{None, Lost}
 use Rattle.size.specs.Answer as size
 use Rattle.promise.specs.Answer.{Said, done, refused}
 use Rattle.promise.specs.Calls.{Admitted, TileLength, Looked, Has, FillTold}
@@ -19,20 +17,20 @@ use Rattle.restorer.specs.Restore.{RestoreTold}
 -- ---- the lines of the flags
 
 -- SPEC 7.6: the two lines that flags name: both, or a lone one, named twice
-pub data Lines : Flag → Flag → Line → Line → Type 0 where
-  both : {a b : Line} → Lines (Lost a) (Lost b) a b
-  lone_first : {a : Line} → Lines (Lost a) None a a
-  lone_second : {b : Line} → Lines None (Lost b) b b
+pub data Lines : Option Line → Option Line → Line → Line → Type 0 where
+  both : {a b : Line} → Lines (Some a) (Some b) a b
+  lone_first : {a : Line} → Lines (Some a) None a a
+  lone_second : {b : Line} → Lines None (Some b) b b
 
 -- wherever there is a flag there are such lines
-pub flags_name : (first second : Flag) → ((first ≡ None) × (second ≡ None)) ⊎ ((a : Line) × (b : Line) × Lines first second a b)
+pub flags_name : (first second : Option Line) → ((first ≡ None) × (second ≡ None)) ⊎ ((a : Line) × (b : Line) × Lines first second a b)
 flags_name None None = inl (refl, refl)
-flags_name None (Lost b) = inr (b, b, lone_second)
-flags_name (Lost a) None = inr (a, a, lone_first)
-flags_name (Lost a) (Lost b) = inr (a, b, both)
+flags_name None (Some b) = inr (b, b, lone_second)
+flags_name (Some a) None = inr (a, a, lone_first)
+flags_name (Some a) (Some b) = inr (a, b, both)
 
 -- to restore the tile is then to fill them
-pub restore_fills : (k : Kind) (p l : ℕ) (tile : List ℕ) {first second : Flag} {a b : Line} {said : Said} {new : List ℕ} → Lines first second a b
+pub restore_fills : (k : Kind) (p l : ℕ) (tile : List ℕ) {first second : Option Line} {a b : Line} {said : Said} {new : List ℕ} → Lines first second a b
     → RestoreTold k p l tile first second said new ↔ FillTold k p l tile a b said new
 restore_fills k p l tile both = (λ t. t, λ t. t)
 restore_fills k p l tile lone_first = (λ t. t, λ t. t)
@@ -45,7 +43,7 @@ pub data Settled (p l : ℕ) (a b : Line) (tile : List ℕ) : Said → List ℕ 
   filled : {new : List ℕ} → Fills p l a b tile new → Settled p l a b tile done new
   unfilled : count.None (Fills p l a b tile) → Settled p l a b tile (refused 5) tile
 
-module _ (k : Kind) (p l : ℕ) (tile : List ℕ) {first second : Flag} {a b : Line} (lines : Lines first second a b) (sure : Sure p l a b)
+module _ (k : Kind) (p l : ℕ) (tile : List ℕ) {first second : Option Line} {a b : Line} (lines : Lines first second a b) (sure : Sure p l a b)
     (taken : Admitted k p l (TileLength p tile) size.well) (ha : Has p a) (hb : Has p b) where
   -- nothing else comes of restoring a tile of any kind, where its flags name such lines ..
   pub sure_settled : {said : Said} {new : List ℕ} → RestoreTold k p l tile first second said new → Settled p l a b tile said new
@@ -66,7 +64,7 @@ module _ (k : Kind) (p l : ℕ) (tile : List ℕ) {first second : Flag} {a b : L
 
 -- ---- new tiles, which alone carry flags on a reel: any two lines are sure, as every slope that a new tile takes reaches all
 
-module _ (p l : ℕ) (tile : List ℕ) {first second : Flag} {a b : Line} (lines : Lines first second a b)
+module _ (p l : ℕ) (tile : List ℕ) {first second : Option Line} {a b : Line} (lines : Lines first second a b)
     (taken : Admitted New p l (TileLength p tile) size.well) (ha : Has p a) (hb : Has p b) where
   sure : Sure p l a b
   sure = inr (admitted_well taken).1.reach

@@ -1,120 +1,97 @@
 // Answers in words and numbers on standard output, each with a space before it. A write that fails is not told: the comparison with `stdout`
 // then finds the text missing.
 use code::{Kind, Line};
-use flag::Flag;
-use promise::{Outcome, Repaired};
+use promise::Repaired;
 use reel::Found;
-use sheet::Corrected;
+use sheet::Fault;
 use size::Refusal;
+use std::io::Write;
 
-// The number that the system knows standard output by.
-const STANDARD_OUTPUT: i32 = 1;
-
-pub fn words(text: &[u8]) {
-    io::write_all(STANDARD_OUTPUT, text);
+pub fn words(rt: &HostRuntime, text: &[u8]) {
+    let _ = rt.stdout().write_all(text);
 }
 
-pub fn count(word: &[u8], n: usize) {
-    words(word);
-    words(b" ");
-    io::print_decimal(STANDARD_OUTPUT, n as u64);
+pub fn count(rt: &HostRuntime, word: &str, n: usize) {
+    let _ = print!(rt; "{word} {n}");
 }
 
-pub fn bytes(list: &[u8]) {
-    words(b":");
-    let mut k = 0;
-    while k < list.len() {
-        words(b" ");
-        io::print_hex(STANDARD_OUTPUT, wide(list[k]), 2);
-        k += 1;
+pub fn bytes(rt: &HostRuntime, list: &[u8]) {
+    words(rt, b":");
+    for byte in list {
+        let _ = print!(rt; " {byte:02x}");
     }
 }
 
-fn wide(byte: u8) -> u64 {
-    byte as u64
+pub fn refused(rt: &HostRuntime, refusal: Refusal) {
+    count(rt, " refused", size::number(refusal));
 }
 
-pub fn refused(refusal: Refusal) {
-    count(b" refused", size::number(refusal));
-}
-
-pub fn outcome(outcome: Outcome) {
+// Done, or why not.
+pub fn outcome(rt: &HostRuntime, outcome: Result<(), Refusal>) {
     match outcome {
-        Outcome::Done => words(b" done"),
-        Outcome::Refused(refusal) => refused(refusal),
+        Ok(()) => words(rt, b" done"),
+        Err(refusal) => refused(rt, refusal),
     }
 }
 
-pub fn repaired(repaired: Repaired) {
+pub fn repaired(rt: &HostRuntime, repaired: Result<Repaired, Refusal>) {
     match repaired {
-        Repaired::Clean => words(b" clean"),
-        Repaired::Cell(r, c) => {
-            count(b" cell", r);
-            count(b"", c);
+        Ok(Repaired::Clean) => words(rt, b" clean"),
+        Ok(Repaired::Cell(r, c)) => {
+            count(rt, " cell", r);
+            count(rt, "", c);
         }
-        Repaired::Column(c) => count(b" column", c),
-        Repaired::Row(r) => count(b" row", r),
-        Repaired::Refused(refusal) => refused(refusal),
+        Ok(Repaired::Column(c)) => count(rt, " column", c),
+        Ok(Repaired::Row(r)) => count(rt, " row", r),
+        Err(refusal) => refused(rt, refusal),
     }
 }
 
 // The number of records, or a refusal's number and the offset of the faulty record.
-pub fn corrected(corrected: Corrected) {
+pub fn corrected(rt: &HostRuntime, corrected: Result<usize, Fault>) {
     match corrected {
-        Corrected::Records(n) => count(b" records", n),
-        Corrected::Refused(refusal, at) => {
-            refused(refusal);
-            count(b" at", at);
+        Ok(n) => count(rt, " records", n),
+        Err(fault) => {
+            refused(rt, fault.refusal);
+            count(rt, " at", fault.at);
         }
     }
 }
 
 // A tile's kind, where it is old, its number, size and slope, its flags, where it has any, and where its bytes begin; the end; or a
 // refusal's number and offset.
-pub fn found(found: Found) {
+pub fn found(rt: &HostRuntime, found: Found) {
     match found {
         Found::Tile(tile) => {
-            let of = tile.kind;
-            kind(of);
-            count(b" tile", tile.number);
-            count(b"", tile.p);
-            count(b"", tile.l);
-            let first = tile.first;
-            let second = tile.second;
-            flag(b" first flag", first);
-            flag(b" second flag", second);
-            count(b" at", tile.at);
+            if tile.kind == Kind::Old {
+                words(rt, b" old");
+            }
+            count(rt, " tile", tile.number);
+            count(rt, "", tile.p);
+            count(rt, "", tile.l);
+            flag(rt, b" first flag", tile.first);
+            flag(rt, b" second flag", tile.second);
+            count(rt, " at", tile.at);
         }
-        Found::End => words(b" end"),
+        Found::End => words(rt, b" end"),
         Found::Refused(refusal, at) => {
-            refused(refusal);
-            count(b" at", at);
+            refused(rt, refusal);
+            count(rt, " at", at);
         }
-    }
-}
-
-// Of an old tile that it is one.
-fn kind(kind: Kind) {
-    match kind {
-        Kind::New => {}
-        Kind::Old => words(b" old"),
     }
 }
 
 // Which flag it is, and its line; of none, nothing.
-fn flag(name: &[u8], flag: Flag) {
-    match flag {
-        Flag::None => {}
-        Flag::Lost(lost) => {
-            words(name);
-            line(lost);
-        }
+fn flag(rt: &HostRuntime, name: &[u8], flag: Option<Line>) {
+    if let Some(lost) = flag {
+        words(rt, name);
+        line(rt, lost);
     }
 }
 
-fn line(line: Line) {
+fn line(rt: &HostRuntime, line: Line) {
     match line {
-        Line::Row(r) => count(b" row", r),
-        Line::Column(c) => count(b" column", c),
+        Line::Row(r) => count(rt, " row", r),
+        Line::Column(c) => count(rt, " column", c),
     }
 }

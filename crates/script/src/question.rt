@@ -1,5 +1,5 @@
 // A line of the script: its columns, and its bytes. Nothing is asked of the signs; others than digits are read as some digit.
-ghost use Rattle.std.specs.Prelude.{◌+◌, ◌<◌, length};
+ghost use Rattle.std.specs.Prelude.{◌+◌, ◌≤◌, ◌<◌, length, IfSome};
 
 use code::{Kind, Line};
 
@@ -17,26 +17,21 @@ pub struct Told {
     pub second: Line,
 }
 
-// What the columns of a line tell; of one that is too short, nothing.
-pub fn numbers(line: &[u8]) -> Told {
-    if line.len() < COLUMNS {
-        return Told {
-            name: b' ',
-            kind: Kind::New,
-            p: 0,
-            l: 0,
-            first: Line::Row(0),
-            second: Line::Row(0),
-        };
+// What the columns of a line tell, if it is a question.
+pub fn read(line: &[u8]) -> Option<Told>
+    ensures { IfSome result (λ told. 24 ≤ length line.now) }
+{
+    if line.len() < COLUMNS || line[COLUMNS - 1] != b':' {
+        return None;
     }
-    Told {
+    Some(Told {
         name: line[0],
         kind: kind(line[7]),
         p: number(line, 8),
         l: number(line, 12),
         first: flagged(line, 16),
         second: flagged(line, 20),
-    }
+    })
 }
 
 // The kind of a tile: o for an old one.
@@ -70,18 +65,14 @@ fn flagged(line: &[u8], at: usize) -> Line
     }
 }
 
-// Lays the bytes of a text into `out`, and gives the part that holds them. Each has two hexadecimal digits, and one sign before them.
+// Lays the bytes of a text into `out`, as many as it has room for, and gives the part that holds them. Each has two hexadecimal digits, and
+// one sign before them.
 pub fn lay<'a>(text: &[u8], out: &'a mut [u8]) -> &'a mut [u8] {
-    let mut n = 0;
-    while n < out.len() {
-        if text.len() / 3 <= n {
-            return &mut out[..n];
-        }
-        let at = 3 * n;
-        out[n] = hexadecimal(text[at + 1]) * 16 + hexadecimal(text[at + 2]);
-        n += 1;
+    let count = out.len().min(text.len() / 3);
+    for (byte, signs) in out.iter_mut().zip(text.chunks_exact(3)) {
+        *byte = hexadecimal(signs[1]) * 16 + hexadecimal(signs[2]);
     }
-    &mut out[..n]
+    &mut out[..count]
 }
 
 // A hexadecimal digit. Of the letters a to f the last four bits are 1 to 6, and the bits above them 6.

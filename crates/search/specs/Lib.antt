@@ -1,3 +1,4 @@
 -- What the search for a hurt line promises, and the laws behind its loops.
 pub mod Line
 pub mod Hurt
+pub mod Unclear

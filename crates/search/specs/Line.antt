@@ -1,6 +1,6 @@
 -- The search for a line along which the sums of both slopes agree. Rows and columns are searched alike. Assumes nothing.
-use Rattle.std.specs.Prelude.{◌≡◌, ℕ, ◌+◌, ◌-◌, ◌*◌, ◌%◌, ◌≤◌, ◌<◌}
-use Rattle.std.proofs.Common.{sym, ap, ◌∙◌, ⊎_elim, mod-lt, mod-eq_of_lt, eq-or-lt_of_le, arith, below_more}
+use Rattle.std.specs.Prelude.{◌≡◌, ℕ, ◌+◌, ◌-◌, ◌*◌, ◌%◌, ◌<◌, Option, MatchOption}
+use Rattle.std.proofs.Common.{sym, ap, ◌∙◌, mod-lt, arith, below_more}
 use Rattle.std.proofs.Math.Nat.{mod-add-mod}
 use Rattle.xor.specs.Xor.{◌⊕◌}
 use Rattle.residue.specs.Remainder.{same, alike, mul_mod_mod, add_alike, mul_alike, undo, before, before_lt, before_step}
@@ -20,11 +20,10 @@ place_of p shift weight n t = (weight * t + shift * n) % p
 abbrev pub Fits : ℕ → ℕ → ℕ → (ℕ → ℕ) → (ℕ → ℕ) → ℕ → Type 0
 Fits p shift weight A S n = (t : ℕ) → t < p → S (place_of p shift weight n t) ≡ A t
 
--- n is a line along which they agree, or p-1 where there is none
-pub record Searched (p shift weight : ℕ) (A S : ℕ → ℕ) (n : ℕ) : Type 0 where
-  pub high : n ≤ p - 1
-  pub agrees : n < p - 1 → Fits p shift weight A S n
-  pub none : p - 1 ≤ n → (k : ℕ) → k < p - 1 → Fits p shift weight A S k → ⊥
+-- n is a line along which they agree, if there is one
+abbrev pub Searched : ℕ → ℕ → ℕ → (ℕ → ℕ) → (ℕ → ℕ) → Option ℕ → Type 0
+Searched p shift weight A S n =
+    MatchOption n ((k : ℕ) → k < p - 1 → Fits p shift weight A S k → ⊥) (λ k. (k < p - 1) × Fits p shift weight A S k)
 
 -- ---- the loops
 
@@ -48,13 +47,6 @@ fits_all p shift weight begin A S n so t h =
     rw (same p {a = begin + 1 * before p begin t} {b = before p begin t + begin} (omega arith) ∙ before_step p begin t h) at
     (so (before p begin t) (before_lt p begin t (omega arith)))
 
--- the first two of them
-pub at_first : (p begin k t : ℕ) → begin < p → t ≡ (begin + 1 * k) % p → k ≡ 0 → begin ≡ t
-at_first p begin k t h e z = sym (e ∙ same p (omega arith) ∙ mod-eq_of_lt h)
-
-pub at_second : (p begin k t r : ℕ) → t ≡ (begin + 1 * k) % p → Stepped p begin 1 r → k ≡ 1 → r ≡ t
-at_second p begin k t r e s z = s.is ∙ same p (omega arith) ∙ sym e
-
 -- the place at the next slope-1 line
 pub place_next : (p shift weight n t t' u r : ℕ) → u ≡ place_of p shift weight n t → Stepped p t 1 t' → Stepped p u weight r
     → r ≡ place_of p shift weight n t'
@@ -62,10 +54,6 @@ place_next p shift weight n t t' u r e ht hu =
     hu.is ∙ ap (λ (x : ℕ). (x + weight) % p) e ∙ mod-add-mod (weight * t + shift * n) p weight ∙ same p (omega arith)
     ∙ add_alike p (weight * (t + 1)) (weight * t') (shift * n) (sym (mul_mod_mod p weight (t + 1)) ∙ same p (ap (λ (x : ℕ). weight * x) (sym ht.is)))
     ∙ same p (omega arith)
-
--- what holds from `from` on up to k, and of k, holds up to k + 1
-pub one_further : (P : ℕ → Type 0) (from k : ℕ) → ((j : ℕ) → from ≤ j → j < k → P j) → P k → (j : ℕ) → from ≤ j → j < k + 1 → P j
-one_further P from k before here j low h = let le : j ≤ k = omega arith in ⊎_elim (λ e. rw e here) (λ lt. before j low lt) (eq-or-lt_of_le le)
 
 -- ---- what the search tells of a line
 

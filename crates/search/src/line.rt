@@ -8,7 +8,7 @@ ghost use Rattle.search.specs.Line.{Searched};
 use walk::index::step;
 use walk::sums::line_sum;
 
-// The first row or column along which the sums of both slopes agree, or p - 1 where there is none. Along line n, the sum of slope 1 of line
+// The first row or column along which the sums of both slopes agree, if there is one. Along line n, the sum of slope 1 of line
 // t has to be the one at the place shift n + weight t modulo p. The lines are tried in their order, and each is given up at the first sum
 // that differs. All begin at the same place, so that the first two sums of slope 1 are taken but once: where these two differ, they are
 // enough to give up nearly every wrong line.
@@ -19,32 +19,28 @@ pub fn explaining(
     begin: usize,
     tile: &[u8],
     sums: &[u8; 257],
-) -> usize
+) -> Option<usize>
     requires { (3 ≤ p) × (p ≤ 257) × (shift < p) × (weight < p) × (begin < p) × (length tile.now ≡ tile_length p) }
     ensures { Searched p shift weight (sum p 1 (cell p tile.now)) (held sums.now) result }
 {
     let here = line_sum(p, begin, tile);
     let next = line_sum(p, step(p, begin, 1), tile);
     let mut place = weight * begin % p;
-    let mut n = 0;
-    'lines: loop {
-        if n == p - 1 {
-            break 'lines n;
-        }
-        let mut t = begin;
-        let mut u = place;
-        place = step(p, place, shift);
-        let mut k = 0;
-        while k < p {
-            if sums[u] != sum_after(p, k, here, next, t, tile) {
-                n += 1;
-                continue 'lines;
+    'search: {
+        'lines: for n in 0..p - 1 {
+            let mut t = begin;
+            let mut u = place;
+            place = step(p, place, shift);
+            for k in 0..p {
+                if sums[u] != sum_after(p, k, here, next, t, tile) {
+                    continue 'lines;
+                }
+                t = step(p, t, 1);
+                u = step(p, u, weight);
             }
-            t = step(p, t, 1);
-            u = step(p, u, weight);
-            k += 1;
+            break 'search Some(n);
         }
-        break 'lines n;
+        None
     }
 }
 

@@ -1,9 +1,10 @@
 -- How a sheet is judged, record by record. Assumes nothing.
-use Rattle.std.specs.Prelude.{◌≡◌, List, ℕ, ◌+◌, ◌*◌, ◌<◌, eqb, get_or}
+use Rattle.std.specs.Prelude.{◌≡◌, List, ℕ, ◌+◌, ◌*◌, ◌<◌, eqb, get_or, Option, Some, None}
 use Rattle.std.proofs.Common.{refl, ap, arith, below_more}
 use Rattle.record.specs.Number.{big_endian}
 use Rattle.code.specs.Says.{Says, says_equal}
-use Rattle.sheet.specs.Sheet.{records, byte_of, Whole, Marked, Placed, SoundBelow}
+use Rattle.sheet.specs.Sheet.{records, byte_of, Whole, Marked, Names, was_of, is_of, Placed, SoundBelow}
+use Rattle.sheet.specs.declared.Correction.{Correction}
 use Rattle.sheet.specs.Answer.{corrected}
 use Rattle.sheet.specs.Calls.{Judged, sound}
 
@@ -16,6 +17,11 @@ pub mark_says : (sheet : List ℕ) (k n : ℕ) → n ≡ big_endian (get_or shee
     → Says (eqb n 0xC33C) (Marked sheet k)
 mark_says sheet k n is high low =
     says_equal n 0xC33C (λ e. (omega (arith, first_byte sheet k), omega arith)) (λ m. omega (arith, first_byte sheet k, m.0, m.1))
+
+-- what is read of the k-th record: its correction, if it has the mark
+abbrev pub Read : List ℕ → ℕ → Option Correction → Type 0
+Read sheet k None = Marked sheet k → ⊥
+Read sheet k (Some c) = Marked sheet k × Names sheet c.row c.column k × (c.was ≡ was_of sheet k) × (c.is ≡ is_of sheet k)
 
 -- no record is passed yet, and one more is
 pub sound_none : (p : ℕ) (sheet : List ℕ) → SoundBelow p sheet 0

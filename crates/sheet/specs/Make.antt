@@ -44,8 +44,6 @@ given_more sheet n i j = more n _
 -- the first n records are made: their differences are added to the cells, and to the sums of their lines
 pub record Made (p l : ℕ) (sheet x : List ℕ) (n : ℕ) (y a b : List ℕ) : Type 0 where
   pub size : length y ≡ length x
-  pub first_size : length a ≡ 257
-  pub second_size : length b ≡ 257
   pub cells : Added p (given sheet n) x y
   pub first : Sums p 1 (given sheet n) a
   pub second : Sums p l (given sheet n) b
@@ -54,8 +52,6 @@ pub record Made (p l : ℕ) (sheet x : List ℕ) (n : ℕ) (y a b : List ℕ) : 
 pub made_none : (p l : ℕ) (sheet x : List ℕ) → Made p l sheet x 0 x (replicate 257 0) (replicate 257 0)
 made_none p l sheet x = record {
   size = refl;
-  first_size = refl;
-  second_size = refl;
   cells = λ i j hi hj. sym (ap (λ (w : ℕ). cell p x i j ⊕ w) (given_none sheet i j) ∙ zero_r _);
   first = λ t h. zeros_held 257 t ∙ sym (sum_zeros p 1 t (given sheet 0) (λ i j hi hj. given_none sheet i j));
   second = λ t h. zeros_held 257 t ∙ sym (sum_zeros p l t (given sheet 0) (λ i j hi hj. given_none sheet i j));
@@ -77,12 +73,10 @@ sum_more p s sheet n d a a' hi hj e held_a added t h =
 -- .. and to its cell. The record names row i and column j, and says that w was and v is to be
 pub made_more : (p l : ℕ) (sheet x : List ℕ) (n : ℕ) (y a b : List ℕ) (i j w v k : ℕ) (a' b' : List ℕ) → Placed p sheet n
     → Names sheet i j n → (w ≡ was_of sheet n) × (v ≡ is_of sheet n) → k ≡ place p i j → k < length y → Made p l sheet x n y a b
-    → ByteAdded p 1 i j (bit_xor w v) a a' → ByteAdded p l i j (bit_xor w v) b b' → length a' ≡ 257 → length b' ≡ 257
+    → ByteAdded p 1 i j (bit_xor w v) a a' → ByteAdded p l i j (bit_xor w v) b b'
     → Made p l sheet x (n + 1) (set y k (bit_xor (held y k) (bit_xor w v))) a' b'
-made_more p l sheet x n y a b i j w v k a' b' h at_place by k_is within made to_a to_b ea eb = record {
+made_more p l sheet x n y a b i j w v k a' b' h at_place by k_is within made to_a to_b = record {
   size = length-set y k _ ∙ made.size;
-  first_size = ea;
-  second_size = eb;
   cells = λ i j hi hj.
       cell_added p (row_of sheet n) (column_of sheet n) (bit_xor w v) k y (omega arith) (rw (at_place.0, at_place.1) at k_is) within i j hi hj
       ∙ ap₂ ◌⊕◌ (made.cells i j hi hj) (ap (λ (d : ℕ). lone (row_of sheet n) (column_of sheet n) d i j) difference_is)

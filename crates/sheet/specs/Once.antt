@@ -1,5 +1,5 @@
 -- The contract allows one answer and one tile: two outcomes that are allowed for the same input are the same. Assumes nothing.
-use Rattle.std.specs.Prelude.{◌≡◌, refl, List, ℕ, ◌*◌, ◌≤◌}
+use Rattle.std.specs.Prelude.{◌≡◌, refl, List, ℕ, ◌*◌, ◌≤◌, Result, Ok, Err}
 use Rattle.std.proofs.Common.{sym, ap, ◌∙◌, le_antisymm}
 use native.Mathlib.Omega.{arith, by_contra}
 use Rattle.code.specs.Slope.{Slope}
@@ -9,7 +9,6 @@ use Rattle.code.specs.declared.Kind.{Kind}
 use Rattle.size.specs.Answer as size
 use Rattle.size.specs.Refusal.{number_of}
 use Rattle.size.specs.Once.{number_once}
-use Rattle.size.specs.declared.Refusal.{Refusal}
 use Rattle.promise.specs.Admit.{admitted_well, admitted_no, admitted_once}
 use Rattle.promise.specs.Calls.{TileLength}
 use Rattle.promise.specs.Admit.{slope_of_lem}
@@ -17,8 +16,7 @@ use Rattle.promise.specs.Once.{Single}
 use Rattle.sheet.specs.Sheet.{Marked, Placed, SoundBelow}
 use Rattle.sheet.specs.Answer.{Said, refused, corrected_said}
 use Rattle.sheet.specs.Calls.{Judged, cut, no_mark, no_place, sound, Corrects, CorrectTold}
-use Rattle.sheet.specs.declared.Corrected.{Corrected}
-use Rattle.sheet.specs.declared.Corrected.TheVariants.{Records, Refused}
+use Rattle.sheet.specs.declared.Fault.{Fault}
 
 -- ---- of one sheet one thing is said
 
@@ -77,16 +75,17 @@ correct_told_once kind p l tile sheet a b x y (CorrectTold.corrects h i c) (Corr
     (judged_told_once p sheet a b i j, corrects_once p l sheet tile x y (slope_of_lem h) c d)
 
 -- and one answer says it
-corrected_said_once : (a b : Corrected) → corrected_said a ≡ corrected_said b → a ≡ b
-corrected_said_once (Records n) (Records m) e = cc
-corrected_said_once (Records n) (Refused s j) e = cc
-corrected_said_once (Refused r i) (Records m) e = cc
-corrected_said_once (Refused r i) (Refused s j) e =
-    let n : number_of r ≡ number_of s = cc in
-    let o : i ≡ j = cc in ap (λ (q : Refusal). Refused q i) (number_once r s n) ∙ ap (Refused s) o
+corrected_said_once : (a b : Result ℕ Fault) → corrected_said a ≡ corrected_said b → a ≡ b
+corrected_said_once (Ok n) (Ok m) e = cc
+corrected_said_once (Ok n) (Err g) e = cc
+corrected_said_once (Err f) (Ok m) e = cc
+corrected_said_once (Err f) (Err g) e =
+    let n : number_of f.refusal ≡ number_of g.refusal = cc in
+    let at : f.at ≡ g.at = cc in
+    let refusal = number_once f.refusal g.refusal n in λ i. Err (record { refusal = refusal i; at = at i })
 
 -- a correction has one right answer, and leaves one tile
-pub correct_once : (kind : Kind) (p l : ℕ) (tile sheet : List ℕ) (a b : Corrected) (x y : List ℕ)
+pub correct_once : (kind : Kind) (p l : ℕ) (tile sheet : List ℕ) (a b : Result ℕ Fault) (x y : List ℕ)
     → CorrectTold kind p l tile sheet (corrected_said a) x → CorrectTold kind p l tile sheet (corrected_said b) y → (a ≡ b) × (x ≡ y)
 correct_once kind p l tile sheet a b x y t u =
     let e = correct_told_once kind p l tile sheet (corrected_said a) (corrected_said b) x y t u in (corrected_said_once a b e.0, e.1)

@@ -1,5 +1,5 @@
 -- How far a walk along a window has come. Assumes nothing.
-use Rattle.std.specs.Prelude.{Bool, ◌≡◌, List, [], ◌++◌, ℕ, ◌+◌, ◌≤◌, length}
+use Rattle.std.specs.Prelude.{Option, Bool, ◌≡◌, List, [], ◌++◌, ℕ, ◌+◌, ◌≤◌, length}
 use Rattle.std.proofs.Common.{sym, subst, append_assoc, append-nil, arith}
 use Rattle.code.specs.Tile.{tile_length}
 use Rattle.promise.specs.Answer.{Said}
@@ -16,7 +16,7 @@ use Rattle.picture.specs.declared.tally.Tally.{Tally}
 use Rattle.window.specs.Treat.{RestoredIn}
 use Rattle.show.specs.Count.{below_more}
 use Rattle.show.specs.Show.{Near, shown_of, Walks, goes_on, PastTold, AlongTold}
-use Rattle.show.specs.declared.Ending.{Ending}
+use Rattle.window.specs.declared.NoTile.{NoTile}
 use Rattle.show.specs.declared.Walk.{Walk}
 use Rattle.show.specs.declared.Walked.{Walked}
 
@@ -76,7 +76,7 @@ past_told place used tally {said} restored shown fits there count = record {
 }
 
 -- a walk is over: what it came to is what was promised
-pub along_told : {form : Form} {last : Bool} {offset : ℕ} {window₀ : List ℕ} {from : ℕ} {tally : Tally} {page₀ window : List ℕ} {k : Walk} {page : List ℕ} {e : Ending}
+pub along_told : {form : Form} {last : Bool} {offset : ℕ} {window₀ : List ℕ} {from : ℕ} {tally : Tally} {page₀ window : List ℕ} {k : Walk} {page : List ℕ} {e : Option NoTile}
     → Going form last offset window₀ (from_place from tally) page₀ window k page
     → Walks form last offset (length page₀) window k (record { walk = k; ending = e }) [] window
     → AlongTold form last offset window₀ from tally page₀ (record { walk = k; ending = e }) window page

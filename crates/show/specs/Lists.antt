@@ -1,5 +1,5 @@
 -- A REEL THAT IS WALKED BY WINDOWS IS LISTED AS ONE THAT IS HELD WHOLE (SPEC 12.9). Assumes nothing.
-use Rattle.std.specs.Prelude.{Bool, ◌≡◌, List, ◌++◌, ℕ, ◌+◌, ◌≤◌, length, get_or}
+use Rattle.std.specs.Prelude.{Bool, ◌≡◌, Option, Some, None, Err, List, ◌++◌, ℕ, ◌+◌, ◌≤◌, length, get_or}
 use Rattle.std.proofs.Common.{ap, subst, ◌∙◌, append_assoc, arith}
 use Rattle.code.specs.Tile.{tile_length}
 use Rattle.size.specs.Refusal.{number_of}
@@ -22,12 +22,10 @@ use Rattle.window.specs.Window.{Shows}
 use Rattle.window.specs.Treat.{RestoredIn}
 use Rattle.window.specs.Law.{settled_there, bytes_there, There, LastIs, looked_there}
 use Rattle.window.specs.Untouched.{behind_change, same_length}
-use Rattle.window.specs.declared.Step.{Step}
-use Rattle.window.specs.declared.Step.TheVariants as step
-use Rattle.show.specs.Show.{shown_of, IsEnd, ending_of, Walks, full, over, goes_on}
+use Rattle.window.specs.declared.NoTile.{NoTile}
+use Rattle.window.specs.declared.NoTile.TheVariants as no_tile
+use Rattle.show.specs.Show.{shown_of, Walks, full, over, goes_on}
 use Rattle.show.specs.Count.{tiles_counted}
-use Rattle.show.specs.declared.Ending.{Ending}
-use Rattle.show.specs.declared.Ending.TheVariants as ending
 use Rattle.show.specs.declared.Walk.{Walk}
 use Rattle.show.specs.declared.Walked.{Walked}
 
@@ -75,7 +73,7 @@ pub walk_lists : {reel : List ℕ} {last : Bool} {offset room : ℕ} {window : L
     → Walks Lines last offset room window k r text after → Shows reel offset window k.place → LastIs last reel offset window
     → Lists reel (offset + r.walk.place) r.walk.tally.tiles rest → Lists reel (offset + k.place) k.tally.tiles (text ++ rest)
 walk_lists (full h) shows last more = more
-walk_lists (over h look is_end) shows last more = more
+walk_lists (over h look) shows last more = more
 walk_lists {reel} {offset = offset} {rest = rest} (goes_on {k = k} {t = t} {said} {more = more} h told restored walks) shows last later =
     let on = walk_lists walks (shows_on shows told restored) (λ is. omega (arith, long_on shows told restored, last is)) later in
     rw (append_assoc (shown_of Lines offset k t said) more rest)
@@ -83,23 +81,22 @@ walk_lists {reel} {offset = offset} {rest = rest} (goes_on {k = k} {t = t} {said
     (subst (λ (n : ℕ). Lists reel (offset + (t.at + tile_length t.p)) n (more ++ rest)) (tiles_counted k.tally said) on))
 
 -- how a walk ended is so on the reel
-abbrev pub EndThere : List ℕ → ℕ → ℕ → Ending → Type 0
-EndThere reel place offset ending.Full = Unit {0}
-EndThere reel place offset ending.More = Unit {0}
-EndThere reel place offset ending.End = NextTold reel place end
-EndThere reel place offset (ending.Stopped r from) = NextTold reel place (refused (number_of r) (offset + from))
+abbrev pub EndThere : List ℕ → ℕ → ℕ → Option NoTile → Type 0
+EndThere reel place offset None = Unit {0}
+EndThere reel place offset (Some no_tile.More) = Unit {0}
+EndThere reel place offset (Some no_tile.End) = NextTold reel place end
+EndThere reel place offset (Some (no_tile.Stopped r from)) = NextTold reel place (refused (number_of r) (offset + from))
 
-end_there : (reel : List ℕ) (place offset : ℕ) (s : Step) → IsEnd s → There reel place offset s → EndThere reel place offset (ending_of s)
-end_there reel place offset (step.Tile _) is_end there = elim is_end [ ]
-end_there reel place offset step.End is_end there = there
-end_there reel place offset (step.Stopped r from) is_end there = there
-end_there reel place offset step.More is_end there = tt
+end_there : (reel : List ℕ) (place offset : ℕ) (why : NoTile) → There reel place offset (Err why) → EndThere reel place offset (Some why)
+end_there reel place offset no_tile.End there = there
+end_there reel place offset (no_tile.Stopped r from) there = there
+end_there reel place offset no_tile.More there = tt
 
 pub walk_ends : {reel : List ℕ} {last : Bool} {offset room : ℕ} {window : List ℕ} {k : Walk} {r : Walked} {text after : List ℕ}
     → Walks Lines last offset room window k r text after → Shows reel offset window k.place → LastIs last reel offset window
     → EndThere reel (offset + r.walk.place) offset r.ending
 walk_ends (full h) shows last = tt
-walk_ends {reel} {offset = offset} (over {k = k} {s = s} h look is_end) shows last = end_there reel (offset + k.place) offset s is_end (looked_there shows last look)
+walk_ends {reel} {offset = offset} (over {k = k} {why} h look) shows last = end_there reel (offset + k.place) offset why (looked_there shows last look)
 walk_ends (goes_on h told restored walks) shows last = walk_ends walks (shows_on shows told restored) (λ is. omega (arith, long_on shows told restored, last is))
 
 -- ---- all windows
@@ -120,8 +117,8 @@ pub record Seen (reel : List ℕ) (at n : ℕ) (r : Walked) (text : List ℕ) : 
 
 -- windows one behind the other: each begins where the walk along the one before it came to, until one comes to the end or is stopped
 pub data Windows (reel : List ℕ) : ℕ → ℕ → List ℕ → Type 0 where
-  ends : {at n : ℕ} {r : Walked} {text : List ℕ} → Seen reel at n r text → r.ending ≡ ending.End → Windows reel at n (text ++ end_line r.walk.tally.tiles)
-  stops : {at n : ℕ} {r : Walked} {text : List ℕ} {no : Refusal} {from : ℕ} → (seen : Seen reel at n r text) → r.ending ≡ ending.Stopped no from
+  ends : {at n : ℕ} {r : Walked} {text : List ℕ} → Seen reel at n r text → r.ending ≡ Some no_tile.End → Windows reel at n (text ++ end_line r.walk.tally.tiles)
+  stops : {at n : ℕ} {r : Walked} {text : List ℕ} {no : Refusal} {from : ℕ} → (seen : Seen reel at n r text) → r.ending ≡ Some (no_tile.Stopped no from)
       → Windows reel at n (text ++ stopped_line (number_of no) (seen.offset + from))
   next : {at n : ℕ} {r : Walked} {text more : List ℕ} → (seen : Seen reel at n r text) → Windows reel (seen.offset + r.walk.place) r.walk.tally.tiles more
       → Windows reel at n (text ++ more)
@@ -135,7 +132,7 @@ seen_lists {reel} {at} {n} {r} {text} {rest} seen more =
 -- THEIR LINES ARE THE LISTING
 pub windows_list : {reel : List ℕ} {at n : ℕ} {text : List ℕ} → Windows reel at n text → Lists reel at n text
 windows_list {reel} (ends {r = r} seen e) =
-    seen_lists seen (whole.ends (subst (λ (x : Ending). EndThere reel (seen.offset + r.walk.place) seen.offset x) e (walk_ends seen.walks seen.shows seen.last)))
+    seen_lists seen (whole.ends (subst (λ (x : Option NoTile). EndThere reel (seen.offset + r.walk.place) seen.offset x) e (walk_ends seen.walks seen.shows seen.last)))
 windows_list {reel} (stops {r = r} seen e) =
-    seen_lists seen (whole.stops (subst (λ (x : Ending). EndThere reel (seen.offset + r.walk.place) seen.offset x) e (walk_ends seen.walks seen.shows seen.last)))
+    seen_lists seen (whole.stops (subst (λ (x : Option NoTile). EndThere reel (seen.offset + r.walk.place) seen.offset x) e (walk_ends seen.walks seen.shows seen.last)))
 windows_list (next seen more) = seen_lists seen (windows_list more)

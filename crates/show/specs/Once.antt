@@ -1,5 +1,5 @@
 -- The contracts settle the answers and the bytes: two walks along one window come to the same. Assumes nothing.
-use Rattle.std.specs.Prelude.{Bool, ◌≡◌, refl, List, ◌++◌, ℕ, ℤ}
+use Rattle.std.specs.Prelude.{Bool, ◌≡◌, refl, List, ◌++◌, ℕ}
 use Rattle.std.proofs.Common.{sym, ap, subst, ◌∙◌, arith}
 use Rattle.promise.specs.Answer.{Said}
 use Rattle.restorer.specs.Once.{restore_told_once}
@@ -12,10 +12,11 @@ use Rattle.picture.specs.declared.tally.Tally.{Tally}
 use Rattle.window.specs.Window.{LookTold, a_tile}
 use Rattle.window.specs.Treat.{tile_bytes, changed, RestoredIn}
 use Rattle.window.specs.Once.{look_once}
-use Rattle.window.specs.declared.Step.{Step}
-use Rattle.show.specs.Show.{shown_of, behind_it, IsEnd, ending_of, Walks, full, over, goes_on}
+use Rattle.window.specs.declared.NoTile.{NoTile}
+use Rattle.std.specs.Prelude.{Some, None, Err}
+use Rattle.show.specs.Show.{shown_of, behind_it, Walks, full, over, goes_on}
 use Rattle.show.specs.Status.{StatusIs, well, hurt, stopped}
-use Rattle.show.specs.declared.Ending.TheVariants as ending
+use Rattle.show.specs.declared.status.Status.{Status}
 use Rattle.show.specs.declared.Walk.{Walk}
 use Rattle.show.specs.declared.Walked.{Walked}
 
@@ -30,8 +31,8 @@ module _ {window : List ℕ} {t : Tile} {said other : Said} {after later : List 
   restored_once = (both.0, x.is ∙ ap (changed window t.at) both.1 ∙ sym y.is)
 
 -- where a walk is over, no tile stands
-pub no_tile : {window : List ℕ} {at : ℕ} {last : Bool} {s : Step} {t : Tile} → LookTold window at last s → IsEnd s → NextTold window at (tile t) → ⊥
-no_tile look is_end told = subst IsEnd (look_once look (a_tile told)) is_end
+pub no_tile : {window : List ℕ} {at : ℕ} {last : Bool} {why : NoTile} {t : Tile} → LookTold window at last (Err why) → NextTold window at (tile t) → ⊥
+no_tile look told = let e = look_once look (a_tile told) in cc
 
 -- ---- a walk
 
@@ -42,19 +43,20 @@ Same r q text words after later = (r ≡ q) × (text ≡ words) × (after ≡ la
 module _ {form : Form} {last : Bool} {offset room : ℕ} where
   same_walks : {window other : List ℕ} {k j : Walk} {r q : Walked} {text words after later : List ℕ} → window ≡ other → k ≡ j
       → Walks form last offset room window k r text after → Walks form last offset room other j q words later → Same r q text words after later
-  same_walks e f (full h) (full g) = (λ i. record { walk = f i; ending = ending.Full }, refl, e)
-  same_walks e f (full h) (over g look is_end) = absurd (omega (arith, h, g, ap (λ (x : Walk). x.used) f))
+  same_walks e f (full h) (full g) = (λ i. record { walk = f i; ending = None }, refl, e)
+  same_walks e f (full h) (over g look) = absurd (omega (arith, h, g, ap (λ (x : Walk). x.used) f))
   same_walks e f (full h) (goes_on g told restored more) = absurd (omega (arith, h, g, ap (λ (x : Walk). x.used) f))
-  same_walks e f (over h look is_end) (full g) = absurd (omega (arith, h, g, ap (λ (x : Walk). x.used) f))
-  same_walks e f (over {window} {k} {s} h look is_end) (over {window = other} {k = j} {s = s'} g look' is_end') =
-      let here = subst (λ (x : Walk). LookTold other x.place last s) f (subst (λ (x : List ℕ). LookTold x k.place last s) e look) in
-      let same = look_once here look' in
-      (λ i. record { walk = f i; ending = ending_of (same i) }, refl, e)
-  same_walks e f (over {window} {k} {s} h look is_end) (goes_on {window = other} {k = j} g told restored more) =
-      absurd (no_tile (subst (λ (x : Walk). LookTold other x.place last s) f (subst (λ (x : List ℕ). LookTold x k.place last s) e look)) is_end told)
+  same_walks e f (over h look) (full g) = absurd (omega (arith, h, g, ap (λ (x : Walk). x.used) f))
+  same_walks e f (over {window} {k} {why} h look) (over {window = other} {k = j} {why = why'} g look') =
+      let here = subst (λ (x : Walk). LookTold other x.place last (Err why)) f (subst (λ (x : List ℕ). LookTold x k.place last (Err why)) e look) in
+      let once = look_once here look' in
+      let same : why ≡ why' = cc in
+      (λ i. record { walk = f i; ending = Some (same i) }, refl, e)
+  same_walks e f (over {window} {k} {why} h look) (goes_on {window = other} {k = j} g told restored more) =
+      absurd (no_tile (subst (λ (x : Walk). LookTold other x.place last (Err why)) f (subst (λ (x : List ℕ). LookTold x k.place last (Err why)) e look)) told)
   same_walks e f (goes_on h told restored more) (full g) = absurd (omega (arith, h, g, ap (λ (x : Walk). x.used) f))
-  same_walks e f (goes_on {window} {k = k} h told restored more) (over {window = other} {k = j} {s = s} g look is_end) =
-      absurd (no_tile (subst (λ (x : Walk). LookTold window x.place last s) (sym f) (subst (λ (x : List ℕ). LookTold x j.place last s) (sym e) look)) is_end told)
+  same_walks e f (goes_on {window} {k = k} h told restored more) (over {window = other} {k = j} {why} g look) =
+      absurd (no_tile (subst (λ (x : Walk). LookTold window x.place last (Err why)) (sym f) (subst (λ (x : List ℕ). LookTold x j.place last (Err why)) (sym e) look)) told)
   same_walks e f (goes_on {window} {after} {k = k} {t} {said} h told restored more) (goes_on {window = other} {k = j} {t = u} g told' restored' more') =
       let here = subst (λ (x : Walk). NextTold other x.place (tile t)) f (subst (λ (x : List ℕ). NextTold x k.place (tile t)) e told) in
       let same_tile = tile_once (next_told_once other j.place (tile t) (tile u) here told') in
@@ -69,7 +71,7 @@ module _ {form : Form} {last : Bool} {offset room : ℕ} where
 
 -- ---- the status
 
-pub status_once : {mended ended : Bool} {t : Tally} {a b : ℤ} → StatusIs mended t ended a → StatusIs mended t ended b → a ≡ b
+pub status_once : {mended ended : Bool} {t : Tally} {a b : Status} → StatusIs mended t ended a → StatusIs mended t ended b → a ≡ b
 status_once (well x) (well y) = refl
 status_once (well x) (hurt y) = absurd (y x)
 status_once (hurt x) (well y) = absurd (x y)

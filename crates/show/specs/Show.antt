@@ -1,6 +1,6 @@
 -- WHAT A READER MUST BELIEVE: what a walk along a window makes of it, and what it puts on a page (SPEC 12.2, 12.7 to 12.9). Assumes
 -- nothing.
-use Rattle.std.specs.Prelude.{Bool, ◌≡◌, List, [], ◌++◌, ℕ, ◌+◌, ◌≤◌, ◌<◌, length}
+use Rattle.std.specs.Prelude.{Bool, ◌≡◌, Some, None, Err, List, [], ◌++◌, ℕ, ◌+◌, ◌≤◌, ◌<◌, length}
 use Rattle.code.specs.Tile.{tile_length}
 use Rattle.promise.specs.Answer.{Said}
 use Rattle.reel.specs.Answer.{tile}
@@ -13,10 +13,7 @@ use Rattle.picture.specs.declared.Form.{Form}
 use Rattle.picture.specs.declared.tally.Tally.{Tally}
 use Rattle.window.specs.Window.{LookTold}
 use Rattle.window.specs.Treat.{RestoredIn}
-use Rattle.window.specs.declared.Step.{Step}
-use Rattle.window.specs.declared.Step.TheVariants as step
-use Rattle.show.specs.declared.Ending.{Ending}
-use Rattle.show.specs.declared.Ending.TheVariants as ending
+use Rattle.window.specs.declared.NoTile.{NoTile}
 use Rattle.show.specs.declared.Walk.{Walk}
 use Rattle.show.specs.declared.Walked.{Walked}
 
@@ -34,25 +31,12 @@ abbrev pub behind_it : Form → ℕ → Walk → Tile → Said → Walk
 behind_it form offset k t said =
     record { place = t.at + tile_length t.p; tally = counted k.tally said; used = k.used + length (shown_of form offset k t said) }
 
--- SPEC 12.9: a look that ends a walk, and how it ends then
-abbrev pub IsEnd : Step → Type 0
-IsEnd (step.Tile t) = ⊥
-IsEnd step.End = Unit {0}
-IsEnd (step.Stopped r from) = Unit {0}
-IsEnd step.More = Unit {0}
-
-abbrev pub ending_of : Step → Ending
-ending_of (step.Tile t) = ending.Full
-ending_of step.End = ending.End
-ending_of (step.Stopped r from) = ending.Stopped r from
-ending_of step.More = ending.More
-
 -- SPEC 12.2 and 12.9: WALKS. Each tile is restored where it stands, and shown behind what was shown before; every other byte of the window
 -- stays. The walk is over where no tile is looked at, and where the page, of so much room, has less than 512 bytes left
 pub data Walks (form : Form) (last : Bool) (offset room : ℕ) : List ℕ → Walk → Walked → List ℕ → List ℕ → Type 0 where
-  full : {window : List ℕ} {k : Walk} → room < k.used + 512 → Walks form last offset room window k (record { walk = k; ending = ending.Full }) [] window
-  over : {window : List ℕ} {k : Walk} {s : Step} → k.used + 512 ≤ room → LookTold window k.place last s → IsEnd s
-      → Walks form last offset room window k (record { walk = k; ending = ending_of s }) [] window
+  full : {window : List ℕ} {k : Walk} → room < k.used + 512 → Walks form last offset room window k (record { walk = k; ending = None }) [] window
+  over : {window : List ℕ} {k : Walk} {why : NoTile} → k.used + 512 ≤ room → LookTold window k.place last (Err why)
+      → Walks form last offset room window k (record { walk = k; ending = Some why }) [] window
   goes_on : {window after final : List ℕ} {k : Walk} {t : Tile} {said : Said} {r : Walked} {more : List ℕ} → k.used + 512 ≤ room
       → NextTold window k.place (tile t) → RestoredIn window t said after
       → Walks form last offset room after (behind_it form offset k t said) r more final

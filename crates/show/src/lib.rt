@@ -3,27 +3,19 @@
 
 pub mod status;
 
-ghost use Rattle.std.specs.Prelude.{◌+◌, ◌≤◌, length};
+ghost use Rattle.std.specs.Prelude.{◌≡◌, ◌≤◌};
 ghost use Rattle.code.specs.Says.{Says};
 ghost use Rattle.reel.specs.Answer.{tile as tile_said};
 ghost use Rattle.reel.specs.Calls.{NextTold};
+ghost use Rattle.page.specs.Page.{Room};
 ghost use Rattle.picture.specs.Tally.{Below};
 ghost use Rattle.show.specs.Show.{PastTold, AlongTold, Near};
 
+use page::Page;
+use picture::Form;
 use picture::tally::Tally;
-use picture::{Form, tally};
 use reel::Tile;
-use size::Refusal;
-use window::Step;
-
-// How a walk along a window ended: the page is full, or what stands there is no tile.
-#[derive(Clone, Copy)]
-pub enum Ending {
-    Full,
-    More,
-    End,
-    Stopped(Refusal, usize),
-}
+use window::NoTile;
 
 // A walk: the place that it has come to, the tiles so far, and how much of the page is used.
 #[derive(Clone, Copy)]
@@ -40,41 +32,38 @@ fn past(
     offset: usize,
     walk: Walk,
     tile: Tile,
-    page: &mut [u8],
+    page: &mut Page,
 ) -> Walk
     requires next_told { NextTold window.old walk.place (tile_said tile) }
-    requires used_in_bounds { walk.used + 512 ≤ length page.old }
+    requires used_in_bounds { Room 512 page.old }
+    requires used { page.old.used ≡ walk.used }
     requires below { Below 10000000000000000000 walk.tally }
     requires offset_bound { offset ≤ 100000000000000000 }
-    ensures { PastTold form offset window.old walk tile page.old result window.new page.new }
+    ensures past { PastTold form offset window.old walk tile page.old.bytes.now result window.new page.new.bytes.now }
+    ensures used { page.new.used ≡ result.used }
+    ensures same_reference { page.new.bytes.ghost_name ≡ page.old.bytes.ghost_name }
 {
-    let place = walk.place;
-    let used = walk.used;
-    let tally = walk.tally;
     let state = window::restore(window, tile);
-    let next = picture::tile(
+    picture::tile(
         form,
-        tally.tiles,
-        offset + place,
-        tile.number,
-        tile.p,
-        tile.l,
+        walk.tally.tiles,
+        offset + walk.place,
+        tile,
         state,
         page,
-        used,
     );
     Walk {
-        place: window::behind(tile),
-        tally: tally::with(tally, state),
-        used: next,
+        place: tile.behind(),
+        tally: walk.tally.with(state),
+        used: page.used(),
     }
 }
 
-// What a walk came to, and how it ended.
+// What a walk came to, and why it ended: no tile stands there, or nothing is told where the page is full.
 #[derive(Clone, Copy)]
 pub struct Walked {
     pub walk: Walk,
-    pub ending: Ending,
+    pub ending: Option<NoTile>,
 }
 
 // Walks along a window from a place on, restores each tile and shows it, as long as there is room on the page.
@@ -90,43 +79,24 @@ pub fn along(
     requires { Near offset tally }
     ensures { AlongTold form last offset window.old from tally page.old result window.new page.new }
 {
+    let mut page = Page::new(page);
     let mut walk = Walk {
         place: from,
         tally,
         used: 0,
     };
-    loop {
-        let used = walk.used;
-        if page.len() - used < picture::MOST {
-            return Walked {
-                walk,
-                ending: Ending::Full,
-            };
-        }
+    while picture::MOST <= page.left() {
         match window::look(window, walk.place, last) {
-            Step::Tile(tile) => {
-                walk = past(form, window, offset, walk, tile, page);
-            }
-            Step::More => {
+            Ok(tile) => walk = past(form, window, offset, walk, tile, &mut page),
+            Err(why) => {
                 return Walked {
                     walk,
-                    ending: Ending::More,
-                };
-            }
-            Step::End => {
-                return Walked {
-                    walk,
-                    ending: Ending::End,
-                };
-            }
-            Step::Stopped(refusal, at) => {
-                return Walked {
-                    walk,
-                    ending: Ending::Stopped(refusal, at),
+                    ending: Some(why),
                 };
             }
         }
     }
+    Walked { walk, ending: None }
 }
 
 // The most bytes, and the most tiles, that are counted.
@@ -136,32 +106,5 @@ pub const FAR: usize = 100000000000000000;
 pub fn is_near(offset: usize, tally: Tally) -> bool
     ensures { Says result (Near offset tally) }
 {
-    if offset > FAR {
-        return false;
-    }
-    if tally.tiles >= FAR {
-        return false;
-    }
-    if tally.clean >= FAR {
-        return false;
-    }
-    if tally.cells >= FAR {
-        return false;
-    }
-    if tally.columns >= FAR {
-        return false;
-    }
-    if tally.rows >= FAR {
-        return false;
-    }
-    if tally.filled >= FAR {
-        return false;
-    }
-    if tally.refused >= FAR {
-        return false;
-    }
-    if tally.doubtful >= FAR {
-        return false;
-    }
-    true
+    offset <= FAR && tally.is_below(FAR)
 }

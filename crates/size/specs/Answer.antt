@@ -1,14 +1,11 @@
 -- WHAT A READER MUST BELIEVE: what the size and slope calls promise (SPEC 2.4 and 9.2). Assumes nothing.
-use Rattle.std.specs.Prelude.{ℕ}
+use Rattle.std.specs.Prelude.{ℕ, Result, Ok, Err}
 use Rattle.residue.specs.Size.{Size}
 use Rattle.code.specs.Kind.{Takes}
 use Rattle.code.specs.declared.Kind.{Kind}
 use Rattle.house.specs.House.{HouseSlope}
 use Rattle.size.specs.Refusal.{number_of}
-use Rattle.size.specs.declared.House.{House}
-use Rattle.size.specs.declared.House.TheVariants.{Slope, Refused}
-use Rattle.size.specs.declared.Judgement.{Judgement}
-use Rattle.size.specs.declared.Judgement.TheVariants as judgement
+use Rattle.size.specs.declared.Refusal.{Refusal}
 
 -- SPEC 2.4: what may be answered: a slope, that all is well, or the number of a refusal
 pub data Said : Type 0 where
@@ -17,13 +14,13 @@ pub data Said : Type 0 where
   refused : ℕ → Said
 
 -- SPEC 2.4 and 9.1: what each answer of the two calls stands for
-abbrev pub house_said : House → Said
-house_said (Slope l) = slope l
-house_said (Refused r) = refused (number_of r)
+abbrev pub house_said : Result ℕ Refusal → Said
+house_said (Ok l) = slope l
+house_said (Err r) = refused (number_of r)
 
-abbrev pub judgement_said : Judgement → Said
-judgement_said judgement.Taken = well
-judgement_said (judgement.Refused r) = refused (number_of r)
+abbrev pub judgement_said : Result Unit Refusal → Said
+judgement_said (Ok done) = well
+judgement_said (Err r) = refused (number_of r)
 
 -- SPEC 2.4: a size is given its house slope, and any other number is refused with 1
 pub data HouseTold (p : ℕ) : Said → Type 0 where

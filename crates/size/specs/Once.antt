@@ -1,5 +1,5 @@
 -- The contracts settle the answers: two answers that are right for the same input are the same. Assumes nothing.
-use Rattle.std.specs.Prelude.{◌≡◌, refl, [], ◌∷◌, ℕ, ◌-◌, get_or}
+use Rattle.std.specs.Prelude.{◌≡◌, refl, [], ◌∷◌, ℕ, ◌-◌, get_or, Result, Ok, Err}
 use Rattle.std.proofs.Common.{ap, sym, ◌∙◌, le_antisymm}
 use native.Mathlib.Omega.{by_contra}
 use Rattle.code.specs.declared.Kind.{Kind}
@@ -8,10 +8,6 @@ use Rattle.house.specs.House.{HouseSlope}
 use Rattle.size.specs.Answer.{Said, slope, house_said, judgement_said, HouseTold, given, no_size, Judged, taken, no_slope}
 use Rattle.size.specs.declared.Refusal.{Refusal}
 use Rattle.size.specs.declared.Refusal.TheVariants.{BadSize, BadSlope, BadLength, BadPlace, Damaged, BadMark, CutShort, Doubtful, TooSmall, NotGood, DiffersElsewhere}
-use Rattle.size.specs.declared.House.{House}
-use Rattle.size.specs.declared.House.TheVariants.{Slope, Refused}
-use Rattle.size.specs.declared.Judgement.{Judgement}
-use Rattle.size.specs.declared.Judgement.TheVariants as judgement
 
 -- the refusal that has the number n
 abbrev pub refusal_of : ℕ → Refusal
@@ -58,22 +54,22 @@ judged_told_once k p l a b (no_slope s f) (no_size g) = absurd (g s)
 judged_told_once k p l a b (no_slope s f) (no_slope s' g) = refl
 
 -- .. and one answer says it
-house_said_once : (a b : House) → house_said a ≡ house_said b → a ≡ b
-house_said_once (Slope l) (Slope m) e = cc
-house_said_once (Slope l) (Refused s) e = cc
-house_said_once (Refused r) (Slope m) e = cc
-house_said_once (Refused r) (Refused s) e = let n : number_of r ≡ number_of s = cc in ap Refused (number_once r s n)
+house_said_once : (a b : Result ℕ Refusal) → house_said a ≡ house_said b → a ≡ b
+house_said_once (Ok l) (Ok m) e = cc
+house_said_once (Ok l) (Err s) e = cc
+house_said_once (Err r) (Ok m) e = cc
+house_said_once (Err r) (Err s) e = let n : number_of r ≡ number_of s = cc in ap Err (number_once r s n)
 
-pub judgement_said_once : (a b : Judgement) → judgement_said a ≡ judgement_said b → a ≡ b
-judgement_said_once judgement.Taken judgement.Taken e = refl
-judgement_said_once judgement.Taken (judgement.Refused s) e = cc
-judgement_said_once (judgement.Refused r) judgement.Taken e = cc
-judgement_said_once (judgement.Refused r) (judgement.Refused s) e = let n : number_of r ≡ number_of s = cc in ap judgement.Refused (number_once r s n)
+pub judgement_said_once : (a b : Result Unit Refusal) → judgement_said a ≡ judgement_said b → a ≡ b
+judgement_said_once (Ok d) (Ok d') e = refl
+judgement_said_once (Ok d) (Err s) e = cc
+judgement_said_once (Err r) (Ok d) e = cc
+judgement_said_once (Err r) (Err s) e = let n : number_of r ≡ number_of s = cc in ap Err (number_once r s n)
 
 -- a house slope call has one right answer
-pub house_once : (p : ℕ) (a b : House) → HouseTold p (house_said a) → HouseTold p (house_said b) → a ≡ b
+pub house_once : (p : ℕ) (a b : Result ℕ Refusal) → HouseTold p (house_said a) → HouseTold p (house_said b) → a ≡ b
 house_once p a b s t = house_said_once a b (house_told_once p (house_said a) (house_said b) s t)
 
 -- a judgement of a kind, a size and a slope has one right answer
-pub judged_once : (k : Kind) (p l : ℕ) (a b : Judgement) → Judged k p l (judgement_said a) → Judged k p l (judgement_said b) → a ≡ b
+pub judged_once : (k : Kind) (p l : ℕ) (a b : Result Unit Refusal) → Judged k p l (judgement_said a) → Judged k p l (judgement_said b) → a ≡ b
 judged_once k p l a b s t = judgement_said_once a b (judged_told_once k p l (judgement_said a) (judgement_said b) s t)

@@ -1,20 +1,23 @@
 -- What is answered to what the table tells, and what an answer tells of the size and the slope that were asked about. Assumes nothing.
-use Rattle.std.specs.Prelude.{◌≡◌, refl, ℕ}
-use Rattle.std.proofs.Common.{arith}
+use Rattle.std.specs.Prelude.{ℕ, Option, Some, None}
+use Rattle.std.specs.Option.{ok_or}
 use Rattle.residue.specs.Size.{Size, Allowed}
 use Rattle.code.specs.Kind.{Takes, allowed_taken}
 use Rattle.code.specs.declared.Kind.{Kind}
 use Rattle.house.specs.House as house
-use Rattle.size.specs.Answer.{Said, slope, well, refused, HouseTold, given, no_size, Judged, taken, no_slope}
+use Rattle.size.specs.declared.Refusal.TheVariants.{BadSize}
+use Rattle.size.specs.Answer.{Said, slope, well, refused, house_said, HouseTold, given, no_size, Judged, taken, no_slope}
 
--- where the table tells 0 the answer is refusal 1, since a house slope is 2 and more, and where it tells another number it is that slope
-pub told_none : {p l : ℕ} → house.SlopeTold p l → l ≡ 0 → HouseTold p (refused 1)
-told_none (house.no_size f) e = no_size f
-told_none (house.of_size s h) e = absurd (omega (arith, h.allowed.low))
+-- where the table tells nothing the answer is refusal 1, and where it tells a slope it is that slope
+pub told_none : {p : ℕ} → house.SlopeTold p None → HouseTold p (refused 1)
+told_none (house.no_size f) = no_size f
 
-pub told_some : {p l : ℕ} → house.SlopeTold p l → (l ≡ 0 → ⊥) → HouseTold p (slope l)
-told_some (house.no_size f) n = absurd (n refl)
-told_some (house.of_size s h) n = given s h
+pub told_some : {p l : ℕ} → house.SlopeTold p (Some l) → HouseTold p (slope l)
+told_some (house.of_size s h) = given s h
+
+pub told : {p : ℕ} (r : Option ℕ) → house.SlopeTold p r → HouseTold p (house_said (ok_or r BadSize))
+told None t = told_none t
+told (Some l) t = told_some t
 
 -- what is given a house slope is a size, and what is refused one is none
 pub given_size : {p l : ℕ} → HouseTold p (slope l) → Size p

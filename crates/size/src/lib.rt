@@ -11,7 +11,7 @@ ghost use Rattle.size.specs.Refusal.{number_of};
 use code::Kind;
 
 // Why a call says no.
-#[derive(Clone, Copy)]
+#[derive(Clone, Copy, PartialEq, Eq)]
 pub enum Refusal {
     BadSize,
     BadSlope,
@@ -45,48 +45,25 @@ pub fn number(refusal: Refusal) -> usize
     }
 }
 
-// What the house slope of a size is asked for gives.
-#[derive(Clone, Copy)]
-pub enum House {
-    Slope(usize),
-    Refused(Refusal),
-}
-
 // The house slope of p, or refusal 1 where p is no size.
-pub fn house_slope(p: usize) -> House
+pub fn house_slope(p: usize) -> Result<usize, Refusal>
     ensures { HouseTold p (house_said result) }
 {
-    let slope = house::slope(p);
-    if slope == 0 {
-        return House::Refused(Refusal::BadSize);
-    }
-    House::Slope(slope)
+    house::slope(p).ok_or(Refusal::BadSize)
 }
 
 // Is p a size?
 pub fn takes_size(p: usize) -> bool
     ensures { Says result (Size p) }
 {
-    match house_slope(p) {
-        House::Slope(_) => true,
-        House::Refused(_) => false,
-    }
+    house_slope(p).is_ok()
 }
 
 // Is l from 2 to p - 2?
 fn between(p: usize, l: usize) -> bool
     ensures { Says result ((2 ≤ l) × (l + 2 ≤ p)) }
 {
-    if p < 4 {
-        return false;
-    }
-    if l < 2 {
-        return false;
-    }
-    if p - 2 < l {
-        return false;
-    }
-    true
+    4 <= p && 2 <= l && l <= p - 2
 }
 
 // Does the size p allow the slope l (SPEC 2.2)? Its powers leave all remainders but 0 where none from the first to the (p - 2)-th is 1.
@@ -101,13 +78,11 @@ fn allows(p: usize, l: usize) -> bool
         return false;
     }
     let mut power = l;
-    let mut i = 1;
-    while i + 1 < p {
+    for _i in 1..p - 1 {
         if power == 1 {
             return false;
         }
         power = power * l % p;
-        i += 1;
     }
     true
 }
@@ -122,29 +97,16 @@ fn takes(kind: Kind, p: usize, l: usize) -> bool
     }
 }
 
-// What a kind, p and l are judged to be.
-#[derive(Clone, Copy)]
-pub enum Judgement {
-    Taken,
-    Refused(Refusal),
-}
-
 // Judges a size and a slope: refusal 1 where p is no size, then refusal 2 where the kind does not take l there. The house slope is known
 // from the table, so that no power of it is looked at.
-pub fn judge(kind: Kind, p: usize, l: usize) -> Judgement
+pub fn judge(kind: Kind, p: usize, l: usize) -> Result<(), Refusal>
     ensures { Judged kind p l (judgement_said result) }
 {
-    match house_slope(p) {
-        House::Refused(refusal) => Judgement::Refused(refusal),
-        House::Slope(house) => {
-            if l == house {
-                Judgement::Taken
-            } else if takes(kind, p, l) {
-                Judgement::Taken
-            } else {
-                Judgement::Refused(Refusal::BadSlope)
-            }
-        }
+    let house = house_slope(p)?;
+    if l == house || takes(kind, p, l) {
+        Ok(())
+    } else {
+        Err(Refusal::BadSlope)
     }
 }
 
@@ -152,8 +114,5 @@ pub fn judge(kind: Kind, p: usize, l: usize) -> Judgement
 pub fn takes_slope(kind: Kind, p: usize, l: usize) -> bool
     ensures { Says result (Size p × Takes kind p l) }
 {
-    match judge(kind, p, l) {
-        Judgement::Taken => true,
-        Judgement::Refused(_) => false,
-    }
+    judge(kind, p, l).is_ok()
 }

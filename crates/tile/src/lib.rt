@@ -5,7 +5,7 @@
 pub use filler::fill;
 pub use judge::judge;
 pub use mender::{inspect, recover, repair};
-pub use promise::{Outcome, Repaired, judge_tile};
+pub use promise::{Repaired, judge_tile};
 pub use writer::{read, write};
 
 // A line of a tile: a row or a column, by its number from 0.

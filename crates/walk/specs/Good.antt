@@ -1,9 +1,10 @@
 -- Whether a tile is good, as the arrays of its sums tell. Assumes nothing.
-use Rattle.std.specs.Prelude.{◌≡◌, List, ℕ, ◌*◌, ◌%◌, ◌≤◌, ◌<◌}
-use Rattle.std.proofs.Common.{sym, ◌∙◌, ⊎_elim, eq-or-lt_of_le, arith}
+use Rattle.std.specs.Prelude.{◌≡◌, List, ℕ, ◌*◌, ◌%◌, ◌<◌, Bool, true, false, not, Option, Some, None, is_some}
+use Rattle.std.proofs.Common.{sym, ◌∙◌}
 use Rattle.code.specs.Tile.{cell, sum, Good}
+use Rattle.code.specs.Says.{Says}
 use Rattle.code.specs.Turn.{turned, turn_first, good_turned}
-use Rattle.walk.specs.Sums.{Summed, FirstOther, AllOne}
+use Rattle.walk.specs.Sums.{Summed, OtherAt, FirstOther, AllOne}
 
 -- all sums are one byte exactly if the tile is good
 pub one_good : (p l : ℕ) (x : List ℕ) → AllOne p (sum p 1 (cell p x)) (sum p l (cell p x)) → Good p l x
@@ -32,9 +33,23 @@ pub good_first : (p l : ℕ) (x : List ℕ) {A : ℕ → ℕ} → 0 < p → Summ
 good_first p l x h s g t q =
     s t q ∙ turn_first p t (cell p x) ∙ g.first t q ∙ sym (s 0 h ∙ turn_first p 0 (cell p x) ∙ g.first 0 h)
 
--- all sums are one byte exactly if none of either slope is another than the first
-pub none_other : {p r s : ℕ} {A B : ℕ → ℕ} → FirstOther p (A 0) A r → FirstOther p (A 0) B s → p ≤ r → p ≤ s → AllOne p A B
-none_other f g h k = record { first = λ t l. f.before t (omega arith); second = λ t l. g.before t (omega arith) }
+-- where the first other byte is looked for and there is one, they are not all alike, and where there is none they are
+pub differ : (p c : ℕ) (A : ℕ → ℕ) (r : Option ℕ) → FirstOther p c A r → is_some r ≡ true → ((t : ℕ) → t < p → A t ≡ c) → ⊥
+differ p c A None f e same = cc
+differ p c A (Some r) f e same = f.other (same r f.lt)
 
-pub one_none : {p r : ℕ} {A B : ℕ → ℕ} → AllOne p A B → FirstOther p (A 0) B r → r ≡ p
-one_none o f = ⊎_elim (λ e. e) (λ h. absurd (f.other h (o.second _ h))) (eq-or-lt_of_le f.high)
+pub alike : (p c : ℕ) (A : ℕ → ℕ) (r : Option ℕ) → FirstOther p c A r → is_some r ≡ false → (t : ℕ) → t < p → A t ≡ c
+alike p c A None f e t h = f t h
+alike p c A (Some r) f e t h = cc
+
+-- all sums are one byte exactly if none of either slope is another than the first
+pub one_none : {p r : ℕ} {A B : ℕ → ℕ} → AllOne p A B → OtherAt p (A 0) B r → ⊥
+one_none o d = d.other (o.second _ d.lt)
+
+-- so where those of slope 1 are one byte, whether there is none among the others says whether the tile is good
+pub none_says : (p : ℕ) (A B : ℕ → ℕ) (r : Option ℕ) (none : Bool) {G : Type 0} → ((t : ℕ) → t < p → A t ≡ A 0) → FirstOther p (A 0) B r
+    → is_some r ≡ not none → (AllOne p A B → G) → (G → AllOne p A B) → Says none G
+none_says p A B None true first second e to back = to (record { first = first; second = second })
+none_says p A B (Some r) true first other e to back = cc
+none_says p A B None false first second e to back = cc
+none_says p A B (Some r) false first other e to back = λ g. one_none (back g) other

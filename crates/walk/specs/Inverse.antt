@@ -1,18 +1,12 @@
 -- The search for the inverse of a slope, upward from 1: it comes to the inverse, as there is one. Assumes nothing.
-use Rattle.std.specs.Prelude.{◌≡◌, ℕ, zero, suc, ◌+◌, ◌*◌, ◌%◌, ◌≤◌, ◌<◌}
-use Rattle.std.proofs.Common.{ap, sym, ◌∙◌, ⊎_elim, eq-or-lt_of_le, mul-zero, arith}
-use Rattle.std.proofs.Math.Nat.{zero-mod}
+use Rattle.std.specs.Prelude.{◌≡◌, ℕ, ◌+◌, ◌*◌, ◌%◌, ◌≤◌, ◌<◌}
+use Rattle.std.proofs.Common.{ap, ◌∙◌, ⊎_elim, eq-or-lt_of_le, arith}
 use Rattle.residue.specs.Remainder.{same, below_pos}
 use Rattle.residue.specs.Prime.{Prime, inverse}
 
 -- no inverse of l is below m
 abbrev pub NoneBelow : ℕ → ℕ → ℕ → Type 0
 NoneBelow p l m = (n : ℕ) → l * n % p ≡ 1 → m ≤ n
-
--- 0 is none
-pub none_yet : (p l : ℕ) → NoneBelow p l 1
-none_yet p l zero e = omega (arith, sym e ∙ same p (mul-zero l) ∙ zero-mod p)
-none_yet p l (suc n) e = omega arith
 
 -- so m is below p
 pub still_below : (p l m : ℕ) → Prime p → 0 < l → l < p → NoneBelow p l m → m < p

@@ -2,11 +2,11 @@
 -- there on, and from row 0 on, the cells go down to the left, each p-2 places further in memory. The row above `below` has it in the added
 -- column. Assumes nothing.
 use Rattle.std.specs.Prelude.{◌≡◌, List, ℕ, ◌+◌, ◌-◌, ◌*◌, ◌%◌, ◌≤◌, ◌<◌}
-use Rattle.std.proofs.Common.{sym, ap, ap₂, ◌∙◌, mod-eq_of_lt, arith}
+use Rattle.std.proofs.Common.{sym, ap, ◌∙◌, mod-eq_of_lt, arith}
 use Rattle.std.proofs.Math.Nat.{mod-add-mod}
 use Rattle.std.specs.Int.Bits.{bit_xor}
 use Rattle.xor.specs.Xor.{◌⊕◌, ⊕_is, comm, zero_l}
-use Rattle.xor.specs.Sum.{xor_below, none, more, count, ext, zeros, parts}
+use Rattle.xor.specs.Sum.{xor_below, more, count, ext, zeros, parts}
 use Rattle.residue.specs.Remainder.{same, alike, before, before_lt, step_before, same_step}
 use Rattle.code.specs.Tile.{Cells, cell, sum, tile_length}
 use Rattle.code.specs.Sums.{sum_by_column}
@@ -22,22 +22,9 @@ use Rattle.walk.specs.Walk.{last}
 abbrev pub run : List ℕ → ℕ → ℕ → ℕ → ℕ
 run tile start step k = held tile (start + step * k)
 
--- the first k are summed, and the next is at `at`
-pub record RunSummed (tile : List ℕ) (start step k at sum : ℕ) : Type 0 where
-  pub next : at ≡ start + step * k
-  pub is : sum ≡ xor_below k (run tile start step)
-
--- none is summed yet
-pub run_none : (tile : List ℕ) (start step : ℕ) → RunSummed tile start step 0 start 0
-run_none tile start step = record { next = omega arith; is = sym (none _) }
-
--- one more is
-pub run_more : {tile : List ℕ} {start step k at sum : ℕ} → RunSummed tile start step k at sum
-    → RunSummed tile start step (k + 1) (at + step) (bit_xor sum (held tile at))
-run_more {tile} {k = k} s = record {
-  next = omega (arith, s.next);
-  is = ⊕_is _ _ ∙ ap₂ ◌⊕◌ s.is (ap (held tile) s.next) ∙ sym (more k _);
-}
+-- the sum of one more
+pub run_more : (tile : List ℕ) (start step k : ℕ) → bit_xor (xor_below k (run tile start step)) (run tile start step k) ≡ xor_below (k + 1) (run tile start step)
+run_more tile start step k = ⊕_is _ _ ∙ sym (more k _)
 
 -- k rows down and k columns to the left of cell (i, j), it is p-2 places further for each
 down_left : (p i j k : ℕ) → 2 ≤ p → k ≤ j → (i + k) * (p - 1) + (j - k) ≡ i * (p - 1) + j + (p - 2) * k

@@ -1,5 +1,5 @@
 -- What is asked of a tile that is walked, and what the arrays of its sums hold. Assumes nothing.
-use Rattle.std.specs.Prelude.{◌≡◌, ◌≢◌, List, ℕ, ◌+◌, ◌%◌, ◌≤◌, ◌<◌}
+use Rattle.std.specs.Prelude.{◌≡◌, ◌≢◌, List, ℕ, ◌+◌, ◌%◌, ◌≤◌, ◌<◌, Option, MatchOption}
 use Rattle.residue.specs.Prime.{Prime}
 use Rattle.code.specs.Held.{held}
 use Rattle.code.specs.Tile.{Cells, tile_length, sum}
@@ -24,11 +24,15 @@ pub record Stepped (p t s r : ℕ) : Type 0 where
   pub is : r ≡ (t + s) % p
   pub lt : r < p
 
--- r is the first place below p at which A is another byte than `common`, or p where there is none
-pub record FirstOther (p common : ℕ) (A : ℕ → ℕ) (r : ℕ) : Type 0 where
-  pub high : r ≤ p
+-- r is a place below p at which A is another byte than `common`, and before it A is that byte
+pub record OtherAt (p common : ℕ) (A : ℕ → ℕ) (r : ℕ) : Type 0 where
+  pub lt : r < p
   pub before : (t : ℕ) → t < r → A t ≡ common
-  pub other : r < p → A r ≢ common
+  pub other : A r ≢ common
+
+-- r is the first place below p at which A is another byte than `common`, if there is one
+abbrev pub FirstOther : ℕ → ℕ → (ℕ → ℕ) → Option ℕ → Type 0
+FirstOther p common A r = MatchOption r ((t : ℕ) → t < p → A t ≡ common) (OtherAt p common A)
 
 -- all sums are one byte
 pub record AllOne (p : ℕ) (A B : ℕ → ℕ) : Type 0 where

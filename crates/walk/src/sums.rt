@@ -16,61 +16,55 @@ use crate::turn::inverse;
 // compiler knows that it is no part of the tile, and takes wide steps.)
 pub fn both_sums(p: usize, l: usize, tile: &[u8], a: &mut [u8; 257], b: &mut [u8; 257])
     requires shape { Shape p l (length tile.now) }
-    requires a_len { (length a.old ≡ 257) × (length b.old ≡ 257) }
     ensures sums { Sums p 1 (cell p tile.now) a.new }
     ensures sums_2 { Sums p l (cell p tile.now) b.new }
-    ensures b_len { length b.new ≡ 257 }
 {
     // line t of slope l is the turned tile's line m t of the inverse slope m
     let m = inverse(p, l);
     let mut sums = [0u8; 257];
     turned_sums(p, m, tile, &mut sums);
     along(p, 0, m, &sums, b);
+    // its sums of slope 1 are the tile's own
     turned_sums(p, 1, tile, &mut sums);
-    along(p, 0, 1, &sums, a);
+    *a = sums;
 }
 
 // The sums of the turned tile's lines of slope m. The tile is walked row by row: its rows are the turned tile's columns, and
 // neighbours in a column are on neighbouring lines.
 pub fn turned_sums(p: usize, m: usize, tile: &[u8], sums: &mut [u8; 257])
     requires { (2 ≤ p) × (p ≤ 257) × (m < p) × (length tile.now ≡ tile_length p) }
-    ensures sums { Sums p m (law.turned (cell p tile.now)) sums.new }
-    ensures sums_len { length sums.new ≡ 257 }
+    ensures { Sums p m (law.turned (cell p tile.now)) sums.new }
 {
     *sums = [0u8; 257];
     let mut first = 0; // the line of the row's first cell: m i modulo p
-    let mut i = 0;
-    while i < p - 1 {
-        add_row(p, tile, i * (p - 1), first, sums);
+    for i in 0..p - 1 {
+        let start = i * (p - 1);
+        add_row(p, &tile[start..start + (p - 1)], first, sums);
         first = step(p, first, m);
-        i += 1;
     }
 }
 
-// Adds the p - 1 bytes of a row, which begins at `start`, to the sums of the lines from `first` on. After the last line comes line 0.
-fn add_row(p: usize, tile: &[u8], start: usize, first: usize, sums: &mut [u8; 257])
-    requires { (p ≤ 257) × (first < p) × (start + (p - 1) ≤ length tile.now) × (length sums.old ≡ 257) }
-    ensures { RowAdded p tile.now start first sums.old sums.new }
+// Adds the bytes of a row to the sums of the lines from `first` on. After the last line comes line 0.
+fn add_row(p: usize, row: &[u8], first: usize, sums: &mut [u8; 257])
+    requires { (p ≤ 257) × (first < p) × (length row.now ≡ p - 1) }
+    ensures { RowAdded p row.now first sums.old sums.new }
 {
     if first == 0 {
-        add_bytes(tile, start, p - 1, sums, 0);
+        add_bytes(row, sums, 0);
     } else {
-        let ahead = p - first;
-        add_bytes(tile, start, ahead, sums, first);
-        add_bytes(tile, start + ahead, first - 1, sums, 0);
+        let (ahead, behind) = row.split_at(p - first);
+        add_bytes(ahead, sums, first);
+        add_bytes(behind, sums, 0);
     }
 }
 
-// Adds `count` bytes, from `start` on, to as many sums, from `first` on. (One run in memory on either side, so that it compiles to
-// wide steps.)
-fn add_bytes(tile: &[u8], start: usize, count: usize, sums: &mut [u8; 257], first: usize)
-    requires { (start + count ≤ length tile.now) × (first + count ≤ 257) × (length sums.old ≡ 257) }
-    ensures { BytesAdded tile.now start count first sums.old sums.new }
+// Adds bytes to as many sums, from `first` on. (One run in memory on either side, so that it compiles to wide steps.)
+fn add_bytes(bytes: &[u8], sums: &mut [u8; 257], first: usize)
+    requires { first + length bytes.now ≤ 257 }
+    ensures { BytesAdded bytes.now (length bytes.now) first sums.old sums.new }
 {
-    let mut k = 0;
-    while k < count {
-        sums[first + k] = sums[first + k] ^ tile[start + k];
-        k += 1;
+    for (k, byte) in bytes.iter().enumerate() {
+        sums[first + k] ^= *byte;
     }
 }
 
@@ -93,13 +87,9 @@ fn run_sum(tile: &[u8], start: usize, step: usize, count: usize) -> u8
     requires { (start + step * count ≤ 200000) × ((k : ℕ) → k < count → start + step * k < length tile.now) }
     ensures { result ≡ xor_below count (λ k. held tile.now (start + step * k)) }
 {
-    let mut sum = 0u8;
-    let mut at = start;
-    let mut k = 0;
-    while k < count {
-        sum = sum ^ tile[at];
-        at += step;
-        k += 1;
+    let mut sum = 0;
+    for k in 0..count {
+        sum ^= tile[start + step * k];
     }
     sum
 }
@@ -112,24 +102,17 @@ pub fn is_good(p: usize, l: usize, tile: &[u8]) -> bool
     let mut sums = [0u8; 257];
     turned_sums(p, 1, tile, &mut sums);
     let common = sums[0];
-    if first_other(p, common, &sums) < p {
+    if first_other(p, common, &sums).is_some() {
         return false;
     }
     turned_sums(p, inverse(p, l), tile, &mut sums);
-    first_other(p, common, &sums) == p
+    first_other(p, common, &sums).is_none()
 }
 
-// The first sum that is another byte than this one, or p where there is none.
-pub fn first_other(p: usize, common: u8, sums: &[u8; 257]) -> usize
+// The place of the first sum that is another byte than this one, if there is one.
+pub fn first_other(p: usize, common: u8, sums: &[u8; 257]) -> Option<usize>
     requires { p ≤ 257 }
     ensures { FirstOther p common (held sums.now) result }
 {
-    let mut t = 0;
-    while t < p {
-        if sums[t] != common {
-            return t;
-        }
-        t += 1;
-    }
-    p
+    sums[..p].iter().position(|sum| *sum != common)
 }

@@ -10,11 +10,12 @@ pub fn inverse(p: usize, l: usize) -> usize
     requires l_nonzero { (0 < l) × (l < p) × (p ≤ 257) }
     ensures { (l * result % p ≡ 1) × (result < p) }
 {
-    let mut t = l;
-    let mut m = 1;
-    while t != 1 {
+    let mut t = l; // l m modulo p
+    for m in 1..p {
+        if t == 1 {
+            return m;
+        }
         t = step(p, t, l);
-        m += 1;
     }
-    m
+    unreachable!()
 }

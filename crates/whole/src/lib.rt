@@ -2,441 +2,173 @@
 #![tactic(auto)]
 
 ghost use Rattle.std.specs.Prelude.{◌≤◌, length};
-ghost use Rattle.show.specs.Show.{Near};
-ghost use Rattle.files.specs.Exit.{Exit};
 
-use files::copy::Copying;
-use files::input::{Second, Source, View};
+use files::again::Second;
+use files::input::Input;
+use files::new::NewReel;
 use files::progress::Clock;
-use files::{asked, copy, input, new, progress, say};
-use hunt::Squares;
+use files::told::{Failure, Told, too_long};
+use files::windows::{Stop, Windows};
+use files::{again, asked, new, say, windows};
+use picture::Form;
 use picture::tally::Tally;
-use picture::{Form, tally};
-use show::{Ending, Walk, Walked, status};
-use size::Refusal;
-use std::fs::File;
-use std::io::Error;
-
-// How far a reel is done: it goes on, came to its end, or stopped at a refusal and an offset; or its bytes, the new reel's or the output's
-// could not be moved, or it has more bytes than can be counted.
-#[derive(Clone, Copy)]
-enum Stage {
-    Going,
-    Ended,
-    Stopped(Refusal, usize),
-    NoReel(Error),
-    NoNew(Error),
-    NoOutput(Error),
-    TooLong,
-}
-
-// A reel on which work goes on: the window, the place in it, what was found so far, and when it began and was last told of.
-#[derive(Clone, Copy)]
-struct Run {
-    view: View,
-    place: usize,
-    tally: Tally,
-    stage: Stage,
-    clock: Clock,
-}
-
-// The run at another stage.
-fn at(run: Run, stage: Stage) -> Run {
-    Run {
-        view: run.view,
-        place: run.place,
-        tally: run.tally,
-        stage,
-        clock: run.clock,
-    }
-}
-
-// The run behind a walk along its window.
-fn behind(run: Run, walk: Walk) -> Run {
-    Run {
-        view: run.view,
-        place: walk.place,
-        tally: walk.tally,
-        stage: Stage::Going,
-        clock: run.clock,
-    }
-}
-
-// A window that was read: the work goes on in it, or it failed.
-fn stage_of(view: View) -> Stage {
-    match view.failed {
-        None => Stage::Going,
-        Some(error) => Stage::NoReel(error),
-    }
-}
-
-// Goes on to the next window.
-fn onward(rt: &HostRuntime, from: &Source, out: Option<&File>, window: &mut [u8], run: Run) -> Run {
-    let place = run.place;
-    let tally = run.tally;
-    if let Err(error) = copy::copied(out, window, place) {
-        return at(run, Stage::NoNew(error));
-    }
-    let passed = input::plus(run.view.offset, place);
-    let clock = progress::tell(rt, run.clock, tally.tiles, passed);
-    let view = input::next(from, window, run.view, place);
-    Run {
-        view,
-        place: 0,
-        tally,
-        stage: stage_of(view),
-        clock,
-    }
-}
-
-// The last window is done: what it holds goes to the new reel, and what is left behind it.
-fn closed(from: &Source, out: Option<&File>, window: &mut [u8], run: Run, stage: Stage) -> Run {
-    let view = run.view;
-    if let Err(error) = copy::copied(out, window, view.held) {
-        return at(run, Stage::NoNew(error));
-    }
-    if view.is_last {
-        return at(run, stage);
-    }
-    match copy::copy_rest(from, out, window) {
-        Copying::All => at(run, stage),
-        Copying::More => at(run, Stage::TooLong),
-        Copying::NoReel(error) => at(run, Stage::NoReel(error)),
-        Copying::NoNew(error) => at(run, Stage::NoNew(error)),
-        Copying::TooLong => at(run, Stage::TooLong),
-    }
-}
-
-// What was shown of a window, and whether it could be written.
-#[derive(Clone, Copy)]
-struct Part {
-    walked: Walked,
-    written: Result<(), Error>,
-}
-
-// Walks along the window as far as the page has room, and writes the page.
-fn show_some(rt: &HostRuntime, form: Form, window: &mut [u8], page: &mut [u8], run: Run) -> Part
-    requires { Near run.view.offset run.tally }
-{
-    let view = run.view;
-    let held = say::at_most(view.held, window);
-    let walked = show::along(
-        form,
-        &mut window[..held],
-        run.place,
-        view.is_last,
-        view.offset,
-        run.tally,
-        page,
-    );
-    let used = say::at_most(walked.walk.used, page);
-    progress::clear(rt, run.clock);
-    let written = rt.stdout().write_all(&page[..used]);
-    Part { walked, written }
-}
-
-// Goes on behind what was shown, as the walk ended.
-fn follow(
-    rt: &HostRuntime,
-    from: &Source,
-    out: Option<&File>,
-    window: &mut [u8],
-    run: Run,
-    ending: Ending,
-) -> Run {
-    match ending {
-        Ending::Full => run,
-        Ending::More => onward(rt, from, out, window, run),
-        Ending::End => closed(from, out, window, run, Stage::Ended),
-        Ending::Stopped(refusal, start) => {
-            let offset = input::plus(run.view.offset, start);
-            closed(from, out, window, run, Stage::Stopped(refusal, offset))
-        }
-    }
-}
-
-// Shows some of the window, and goes on.
-fn turn(
-    rt: &HostRuntime,
-    form: Form,
-    from: &Source,
-    out: Option<&File>,
-    window: &mut [u8],
-    page: &mut [u8],
-    run: Run,
-) -> Run {
-    if !show::is_near(run.view.offset, run.tally) {
-        return at(run, Stage::TooLong);
-    }
-    let shown = show_some(rt, form, window, page, run);
-    if let Err(error) = shown.written {
-        return at(run, Stage::NoOutput(error));
-    }
-    let walked = shown.walked;
-    let now = behind(run, walked.walk);
-    follow(rt, from, out, window, now, walked.ending)
-}
-
-fn is_going(stage: Stage) -> bool {
-    match stage {
-        Stage::Going => true,
-        _ => false,
-    }
-}
-
-// Does a form leave a row that is not done yet?
-fn is_by_rows(form: Form) -> bool {
-    match form {
-        Form::Lines => false,
-        Form::Squares => false,
-        Form::Signs => true,
-    }
-}
-
-// Walks along a whole reel.
-fn walk_all(
-    rt: &HostRuntime,
-    form: Form,
-    from: &Source,
-    out: Option<&File>,
-    window: &mut [u8],
-    page: &mut [u8],
-) -> Run {
-    let clock = progress::begun(rt, is_by_rows(form));
-    let view = input::first(from, window);
-    let mut now = Run {
-        view,
-        place: 0,
-        tally: tally::none(),
-        stage: stage_of(view),
-        clock,
-    };
-    for _ in 0..u64::MAX {
-        if !is_going(now.stage) {
-            break;
-        }
-        now = turn(rt, form, from, out, window, page, now);
-    }
-    progress::clear(rt, now.clock);
-    now
-}
-
-// Shows what closes a reel in a form, and answers the status; or says what failed. `mended` is whether tiles were to be mended.
-fn close(
-    rt: &HostRuntime,
-    form: Form,
-    reel: &[u8],
-    new: &[u8],
-    page: &mut [u8],
-    run: Run,
-    mended: bool,
-) -> i32
-    requires { 4096 ≤ length page.old }
-    ensures { Exit result }
-{
-    let tally = run.tally;
-    if !show::is_near(0, tally) {
-        return copy::too_long(rt, reel);
-    }
-    match run.stage {
-        Stage::Ended => {
-            let used = picture::ended(form, tally, page);
-            copy::written(rt, page, used, status::of_reel(tally, true, mended))
-        }
-        Stage::Stopped(refusal, offset) => {
-            let used = picture::stopped(form, tally, refusal, offset, page);
-            copy::written(rt, page, used, status::of_reel(tally, false, mended))
-        }
-        Stage::NoReel(error) => input::failed(rt, reel, error),
-        Stage::NoNew(error) => say::failed(rt, new, error),
-        Stage::NoOutput(error) => say::failed(rt, b"standard output", error),
-        Stage::Going => copy::too_long(rt, reel),
-        Stage::TooLong => copy::too_long(rt, reel),
-    }
-}
-
-fn is_served(status: i32) -> bool {
-    status < 2
-}
+use show::status::Status;
+use show::{Walked, status};
+use window::NoTile;
 
 // Lists a reel.
-pub fn list(rt: &HostRuntime) -> i32
-    ensures { Exit result }
-{
-    let mut name = io::buffer();
-    let Some(n) = asked::held(rt, 0, &mut name) else {
-        return 2;
-    };
-    shown(rt, Form::Lines, &name[..n])
-}
-
-// Shows a reel in a form that is made in one walk.
-fn shown(rt: &HostRuntime, form: Form, reel: &[u8]) -> i32
-    ensures { Exit result }
-{
-    let from = match input::open(rt, reel) {
-        Ok(from) => from,
-        Err(error) => return input::failed(rt, reel, error),
-    };
-    let mut window = input::room();
-    let mut page = io::large_buffer();
-    shown_by(rt, form, &from, reel, &mut window, &mut page)
-}
-
-// The same, with room for a window and a page.
-fn shown_by(
-    rt: &HostRuntime,
-    form: Form,
-    from: &Source,
-    reel: &[u8],
-    window: &mut [u8],
-    page: &mut [u8],
-) -> i32
-    requires { 4096 ≤ length page.old }
-    ensures { Exit result }
-{
-    let done = walk_all(rt, form, from, None, window, page);
-    close(rt, form, reel, reel, page, done, false)
+pub fn list(rt: &HostRuntime) -> Result<Status, Told> {
+    let name = asked::word(rt, 0)?;
+    let reel = Input::open(rt, name.bytes())?;
+    shown(rt, Form::Lines, &reel, None)
 }
 
 // Repairs a reel.
-pub fn repair(rt: &HostRuntime, force: bool) -> i32
-    ensures { Exit result }
-{
-    let mut reel = io::buffer();
-    let Some(n) = asked::held(rt, 0, &mut reel) else {
-        return 2;
-    };
-    let mut new = io::buffer();
-    let Some(m) = asked::held(rt, 1, &mut new) else {
-        return 2;
-    };
-    repaired(rt, &reel[..n], &new[..m], force)
-}
-
-fn repaired(rt: &HostRuntime, reel: &[u8], new: &[u8], force: bool) -> i32
-    ensures { Exit result }
-{
-    let from = match input::open(rt, reel) {
-        Ok(from) => from,
-        Err(error) => return input::failed(rt, reel, error),
-    };
-    let mut part = io::buffer();
-    let n = new::part(new, &mut part);
-    let Some(out) = new::begin(rt, Some(&from), new, &part[..n], force) else {
-        return 2;
-    };
-    let status = repaired_to(rt, &from, &out, reel, &part[..n]);
-    if is_served(status) {
-        return new::keep(rt, out, &part[..n], new, force, status);
-    }
-    new::drop(rt, out, &part[..n]);
-    status
-}
-
-fn repaired_to(rt: &HostRuntime, from: &Source, out: &File, reel: &[u8], part: &[u8]) -> i32
-    ensures { Exit result }
-{
-    let mut window = input::room();
-    let mut page = io::large_buffer();
-    let done = walk_all(rt, Form::Lines, from, Some(out), &mut window, &mut page);
-    close(rt, Form::Lines, reel, part, &mut page, done, true)
+pub fn repair(rt: &HostRuntime, force: bool) -> Result<Status, Told> {
+    let name = asked::word(rt, 0)?;
+    let new = asked::word(rt, 1)?;
+    let reel = Input::open(rt, name.bytes())?;
+    new::made(rt, Some(&reel.source), new.bytes(), force, |new| {
+        shown(rt, Form::Lines, &reel, Some(new))
+    })
 }
 
 // Draws a reel, in signs or as a drawing.
-pub fn map(rt: &HostRuntime, text: bool) -> i32
-    ensures { Exit result }
-{
-    let mut name = io::buffer();
-    let Some(n) = asked::held(rt, 0, &mut name) else {
-        return 2;
-    };
-    mapped(rt, text, &name[..n])
-}
-
-fn mapped(rt: &HostRuntime, text: bool, reel: &[u8]) -> i32
-    ensures { Exit result }
-{
+pub fn map(rt: &HostRuntime, text: bool) -> Result<Status, Told> {
+    let name = asked::word(rt, 0)?;
+    let reel = Input::open(rt, name.bytes())?;
     if text {
-        return shown(rt, Form::Signs, reel);
+        shown(rt, Form::Signs, &reel, None)
+    } else {
+        drawn(rt, &reel)
     }
-    let from = match input::open(rt, reel) {
-        Ok(from) => from,
-        Err(error) => return input::failed(rt, reel, error),
-    };
-    let mut window = input::room();
-    let mut page = io::large_buffer();
-    drawn(rt, &from, reel, &mut window, &mut page)
 }
 
 // Makes a drawing, for which the reel is read twice: first the squares are counted. What can be read but once is kept in a file without a
 // name meanwhile.
-fn drawn(rt: &HostRuntime, from: &Source, reel: &[u8], window: &mut [u8], page: &mut [u8]) -> i32
-    requires { 4096 ≤ length page.old }
-    ensures { Exit result }
-{
-    match input::again(rt, from) {
-        Second::From(place) => drawn_from(rt, from, place, reel, window, page),
-        Second::By(other) => drawn_by(rt, &other, from, reel, window, page),
-        Second::No => match input::kept(rt, from, reel, window) {
-            Some(kept) => drawn_from(rt, &kept, 0, reel, window, page),
-            None => 2,
-        },
-        Second::Failed(error) => input::failed(rt, reel, error),
+fn drawn(rt: &HostRuntime, reel: &Input) -> Result<Status, Told> {
+    match again::how(rt, reel)? {
+        Second::From(place) => drawn_from(rt, reel, place),
+        Second::By(other) => {
+            counted(rt, &other)?;
+            shown(rt, Form::Squares, reel, None)
+        }
+        Second::No => drawn_from(rt, &again::kept(rt, reel)?, 0),
     }
 }
 
 // Makes a drawing of what is set back to the place where it began.
-fn drawn_from(
-    rt: &HostRuntime,
-    from: &Source,
-    place: u64,
-    reel: &[u8],
-    window: &mut [u8],
-    page: &mut [u8],
-) -> i32
-    requires { 4096 ≤ length page.old }
-    ensures { Exit result }
-{
-    if counted(rt, from, reel, window, page) != 0 {
-        return 2;
-    }
-    input::back(from, place);
-    shown_by(rt, Form::Squares, from, reel, window, page)
+fn drawn_from(rt: &HostRuntime, reel: &Input, place: u64) -> Result<Status, Told> {
+    counted(rt, reel)?;
+    reel.source.back(place);
+    shown(rt, Form::Squares, reel, None)
 }
 
-// Makes a drawing of what is counted by another reader.
-fn drawn_by(
-    rt: &HostRuntime,
-    other: &Source,
-    from: &Source,
-    reel: &[u8],
-    window: &mut [u8],
-    page: &mut [u8],
-) -> i32
-    requires { 4096 ≤ length page.old }
-    ensures { Exit result }
-{
-    if counted(rt, other, reel, window, page) != 0 {
-        return 2;
-    }
-    shown_by(rt, Form::Squares, from, reel, window, page)
+// Counts the squares and begins the drawing. Its room is free again when that is done.
+#[inline(never)]
+fn counted(rt: &HostRuntime, reel: &Input) -> Result<(), Told> {
+    let mut room = windows::room();
+    let count = hunt::count(rt, reel, &mut room)?;
+    let mut page = io::buffer();
+    let used = picture::begun(Form::Squares, count, &mut page);
+    say::print(rt, &page, used)
 }
 
-// Counts the squares and begins the drawing. Answers 0, or says what failed.
-fn counted(rt: &HostRuntime, from: &Source, reel: &[u8], window: &mut [u8], page: &mut [u8]) -> i32
-    requires { 4096 ≤ length page.old }
-    ensures { Exit result }
-{
-    match hunt::count(rt, from, window) {
-        Squares::NoReel(error) => input::failed(rt, reel, error),
-        Squares::TooLong => copy::too_long(rt, reel),
-        Squares::Are(count) => {
-            if count > show::FAR {
-                return copy::too_long(rt, reel);
-            }
-            let used = picture::begun(Form::Squares, count, page);
-            copy::written(rt, page, used, 0)
+// What a whole reel came to: what was found on it, and where the walk stopped, if it did not come to the end.
+#[derive(Clone, Copy)]
+struct Found {
+    tally: Tally,
+    stop: Option<Stop>,
+}
+
+impl Found {
+    // Shows what closes a reel in a form.
+    fn close(&self, rt: &HostRuntime, form: Form, name: &[u8], page: &mut [u8]) -> Result<(), Told>
+        requires { 4096 ≤ length page.old }
+    {
+        let tally = self.tally;
+        if !show::is_near(0, tally) {
+            return Err(too_long(rt, name));
         }
+        let used = match self.stop {
+            Some(stop) => picture::stopped(form, tally, stop.refusal, stop.offset, page),
+            None => picture::ended(form, tally, page),
+        };
+        say::print(rt, page, used)
+    }
+}
+
+// Shows a reel in a form that is made in one walk. The tiles are mended on the new reel, if there is one.
+#[inline(never)]
+fn shown(
+    rt: &HostRuntime,
+    form: Form,
+    reel: &Input,
+    new: Option<&NewReel>,
+) -> Result<Status, Told> {
+    let mut room = windows::room();
+    let mut page = io::large_buffer();
+    let clock = Clock::begun(rt, is_by_rows(form));
+    let mut windows = Windows::begun(rt, reel, new, &mut room, clock)?;
+    let found = walk(rt, form, &mut windows, &mut page);
+    let found = windows.ended(rt, found)?;
+    found.close(rt, form, reel.name, &mut page)?;
+    Ok(status::of_reel(found.tally, found.stop.is_none(), new.is_some()))
+}
+
+// Does a form leave a row that is not done yet?
+fn is_by_rows(form: Form) -> bool {
+    matches!(form, Form::Signs)
+}
+
+// Walks along a whole reel.
+fn walk(
+    rt: &HostRuntime,
+    form: Form,
+    reel: &mut Windows,
+    page: &mut [u8],
+) -> Result<Found, Failure> {
+    let mut tally = Tally::new();
+    for _ in 0..u64::MAX {
+        let walked = show_some(rt, form, reel, page, tally)?;
+        tally = walked.walk.tally;
+        reel.place = walked.walk.place;
+        match walked.ending {
+            None => {}
+            Some(NoTile::More) => reel.onward(rt, tally.tiles)?,
+            Some(NoTile::End) => {
+                reel.finish()?;
+                return Ok(Found { tally, stop: None });
+            }
+            Some(NoTile::Stopped(refusal, place)) => {
+                let stop = Some(reel.stop(refusal, place));
+                reel.finish()?;
+                return Ok(Found { tally, stop });
+            }
+        }
+    }
+    Err(Failure::TooLong)
+}
+
+// Walks along the window as far as the page has room, and writes the page.
+fn show_some(
+    rt: &HostRuntime,
+    form: Form,
+    reel: &mut Windows,
+    page: &mut [u8],
+    tally: Tally,
+) -> Result<Walked, Failure> {
+    let offset = reel.offset;
+    if !show::is_near(offset, tally) {
+        return Err(Failure::TooLong);
+    }
+    let place = reel.place;
+    let is_last = reel.is_last;
+    let walked = show::along(form, reel.window(), place, is_last, offset, tally, page);
+    let used = say::at_most(walked.walk.used, page);
+    reel.clock.clear(rt);
+    match rt.stdout().write_all(&page[..used]) {
+        Ok(()) => Ok(walked),
+        Err(error) => Err(Failure::Output(error)),
     }
 }

@@ -1,20 +1,22 @@
 -- How far a search along a window has come, and what follows from a tile that it passes. Assumes nothing.
-use Rattle.std.specs.Prelude.{◌≡◌, Bool, List, ◌++◌, ℕ, suc, ◌+◌, ◌-◌, ◌≤◌, ◌<◌, length, take, drop, get_or, set}
-use Rattle.std.proofs.Common.{sym, ap, subst, ◌∙◌, zero-add, add-one, arith, length-drop, get_or-drop, length-take-le}
-use Rattle.std.proofs.Math.Seq.{paste, paste-suc}
-use Rattle.std.proofs.lemmas.List.Edits.{drop-paste}
+use Rattle.std.specs.Prelude.{◌≡◌, Ok, Err, Bool, true, false, List, ◌++◌, ℕ, ◌+◌, ◌-◌, ◌≤◌, length, take, drop}
+use Rattle.std.proofs.Common.{sym, ap, ◌∙◌, arith, length-drop, length-take-le}
 use Rattle.code.specs.Tile.{tile_length}
+use Rattle.size.specs.Once.{number_once}
+use Rattle.size.specs.Refusal.{number_of}
+use Rattle.size.specs.declared.Refusal.{Refusal}
+use Rattle.size.specs.declared.Refusal.TheVariants.{CutShort}
 use Rattle.promise.specs.Answer.{Said}
 use Rattle.restorer.specs.Restore.{RestoreTold}
-use Rattle.reel.specs.Answer.{tile}
+use Rattle.reel.specs.Answer.{tile, refused}
 use Rattle.reel.specs.Calls.{NextTold}
 use Rattle.reel.specs.Told.{tile_taken, tile_within}
 use Rattle.reel.specs.Walks.{moves_on}
 use Rattle.reel.specs.declared.Tile.{Tile}
-use Rattle.window.specs.Window.{LookTold, a_tile, Seeks, passes}
-use Rattle.window.specs.Treat.{Within, changed, tile_bytes, RestoredIn, OnTile, there, RestoresAt}
+use Rattle.window.specs.Window.{LookTold, a_tile, last_stop, stop, more_of_it, Seeks, passes}
+use Rattle.window.specs.Treat.{Within, changed, tile_bytes, RestoredIn, TileTold, OnTile, there, no_tile as none, RestoresAt}
+use Rattle.window.specs.declared.NoTile.TheVariants as no_tile
 use Rattle.window.specs.declared.Sought.{Sought}
-use Rattle.window.specs.declared.Step.TheVariants as step
 
 -- ---- a search
 
@@ -35,7 +37,7 @@ seeking_on {window} {last} {number} {from} {before} {at} {n} going told other = 
 
 -- ---- a tile lies within its window
 
-pub looked_tile : {window : List ℕ} {at : ℕ} {last : Bool} {t : Tile} → LookTold window at last (step.Tile t) → NextTold window at (tile t)
+pub looked_tile : {window : List ℕ} {at : ℕ} {last : Bool} {t : Tile} → LookTold window at last (Ok t) → NextTold window at (tile t)
 looked_tile (a_tile told) = told
 
 pub within : {window : List ℕ} {at : ℕ} {t : Tile} → NextTold window at (tile t) → Within window t
@@ -47,28 +49,6 @@ bytes_long {window} {t} w = length-take-le (tile_length t.p) (drop t.at window) 
 -- what came back of a part is as long as the part was, so that it takes its place
 pub put_back : (window : List ℕ) (at k : ℕ) (new : List ℕ) → length new ≡ k → take at window ++ (new ++ drop k (drop at window)) ≡ changed window at new
 put_back window at k new e = ap (λ (n : ℕ). take at window ++ (new ++ drop n (drop at window))) (sym e)
-
--- ---- what is moved to the front
-
-module _ (window : List ℕ) (from : ℕ) where
-  -- so many bytes have been moved
-  abbrev pub moved_down : ℕ → List ℕ
-  moved_down k = paste window 0 (drop from window) k
-
-  -- what is to be moved next is still there
-  pub still_there : (k : ℕ) → from + k < length window → get_or (moved_down k) (from + k) 0 ≡ get_or (drop from window) k 0
-  still_there k h =
-      let behind = drop-paste window 0 (drop from window) k (omega arith) (omega (arith, length-drop from window)) in
-      sym (get_or-drop (0 + k) (moved_down k) from 0 ∙ ap (λ (n : ℕ). get_or (moved_down k) n 0) (omega arith))
-      ∙ ap (λ (x : List ℕ). get_or x from 0) behind
-      ∙ get_or-drop (0 + k) window from 0
-      ∙ ap (λ (n : ℕ). get_or window n 0) (omega arith)
-      ∙ sym (get_or-drop from window k 0)
-
-  pub moved_one : (k : ℕ) (new : List ℕ) → from + k < length window → new ≡ moved_down k → set new k (get_or new (from + k) 0) ≡ moved_down (k + 1)
-  moved_one k new h e =
-      let next = paste-suc window 0 (drop from window) k 0 (omega arith) (omega (arith, length-drop from window)) in
-      rw (e, still_there k h, add-one) (subst (λ (n : ℕ). set (moved_down k) n (get_or (drop from window) k 0) ≡ moved_down (suc k)) (zero-add k) next)
 
 -- ---- what is done with a tile, and put back
 
@@ -95,3 +75,24 @@ restored_in {window} {t} {said} {end} new w e long done =
 pub restores_at : {window after : List ℕ} {at : ℕ} {t : Tile} {said : Said} → NextTold window at (tile t) → RestoredIn window t said after
     → RestoresAt window at said after
 restores_at {window} {after} {at} {t} {said} told r = rw r.is (there told (r.told, r.long ∙ sym (bytes_long (within told))))
+
+-- where no tile is told, nothing is done
+pub refused_there : {Answer : Type 0} (refuse : ℕ → Answer) (Told : Tile → List ℕ → Answer → List ℕ → Type 0) (back : Tile → List ℕ → List ℕ) (same window : List ℕ)
+    (at : ℕ) (r : Refusal) → TileTold window at (Err r) → OnTile refuse Told back same window at (refuse (number_of r)) same
+refused_there refuse Told back same window at r told = none told.1 told.2 told.3
+
+-- ---- a look at what is refused
+
+-- a record that is cut by a window that is not the last, a refusal in the last one, and any other refusal
+pub cut : (window : List ℕ) (at : ℕ) (last : Bool) (r : Refusal) (from : ℕ) → NextTold window at (refused (number_of r) from) → r ≡ CutShort → last ≡ false
+    → LookTold window at last (Err no_tile.More)
+cut window at last r from told e not_last = rw not_last (more_of_it (rw e at told))
+
+pub stops_last : (window : List ℕ) (at : ℕ) (last : Bool) (r : Refusal) (from : ℕ) → NextTold window at (refused (number_of r) from) → last ≡ true
+    → LookTold window at last (Err (no_tile.Stopped r from))
+stops_last window at last r from told is_last = rw is_last (last_stop told)
+
+pub stops : (window : List ℕ) (at : ℕ) (last : Bool) (r : Refusal) (from : ℕ) → NextTold window at (refused (number_of r) from) → (r ≡ CutShort → ⊥)
+    → LookTold window at last (Err (no_tile.Stopped r from))
+stops window at true r from told other = last_stop told
+stops window at false r from told other = stop told (λ e. other (number_once r CutShort e))

@@ -1,6 +1,6 @@
 -- THE LAW OF THE WINDOW (SPEC 12.9): what a window settles is so on the reel; and a window that has room for the largest record settles
 -- what stands at its first byte. Assumes nothing.
-use Rattle.std.specs.Prelude.{◌≡◌, refl, Bool, true, List, ℕ, ◌+◌, ◌-◌, ◌≤◌, ◌<◌, length, drop, get_or}
+use Rattle.std.specs.Prelude.{◌≡◌, refl, Result, Ok, Err, Bool, true, List, ℕ, ◌+◌, ◌-◌, ◌≤◌, ◌<◌, length, drop, get_or}
 use Rattle.std.proofs.Common.{sym, ap, subst, ◌∙◌, mul-le-mul, arith, length-drop, ext_get_or, get_or-take, get_or-drop, length-take-le}
 use Rattle.code.specs.Tile.{tile_length}
 use Rattle.code.specs.declared.Kind.{Kind}
@@ -19,8 +19,8 @@ use Rattle.reel.specs.Told.{tile_within, tile_behind}
 use Rattle.reel.specs.declared.Tile.{Tile}
 use Rattle.window.specs.Window.{Shows, LookTold, a_tile, the_end, last_stop, stop, more_behind, more_of_it}
 use Rattle.window.specs.Treat.{tile_bytes}
-use Rattle.window.specs.declared.Step.{Step}
-use Rattle.window.specs.declared.Step.TheVariants as step
+use Rattle.window.specs.declared.NoTile.{NoTile}
+use Rattle.window.specs.declared.NoTile.TheVariants as no_tile
 
 -- what is settled by any window: a tile, and each refusal but 7
 abbrev pub Settled : Said → Type 0
@@ -126,18 +126,18 @@ large_settles h (headed there told) = record_settles h told
 -- ---- what is looked at
 
 -- what a step says of the reel, at the place where the window's place is on it
-abbrev pub There : List ℕ → ℕ → ℕ → Step → Type 0
-There reel place offset (step.Tile t) = NextTold reel place (tile (further offset t))
-There reel place offset step.End = NextTold reel place end
-There reel place offset (step.Stopped r from) = NextTold reel place (refused (number_of r) (offset + from))
-There reel place offset step.More = Unit {0}
+abbrev pub There : List ℕ → ℕ → ℕ → Result Tile NoTile → Type 0
+There reel place offset (Ok t) = NextTold reel place (tile (further offset t))
+There reel place offset (Err no_tile.End) = NextTold reel place end
+There reel place offset (Err (no_tile.Stopped r from)) = NextTold reel place (refused (number_of r) (offset + from))
+There reel place offset (Err no_tile.More) = Unit {0}
 
 -- the last window ends where the reel does
 abbrev pub LastIs : Bool → List ℕ → ℕ → List ℕ → Type 0
 LastIs last reel offset window = last ≡ true → offset + length window ≡ length reel
 
 -- WHATEVER A LOOK AT A WINDOW SAYS IS SO ON THE REEL, unless it asks for more
-pub looked_there : {reel : List ℕ} {offset : ℕ} {window : List ℕ} {at : ℕ} {is_last : Bool} {s : Step} → Shows reel offset window at → LastIs is_last reel offset window
+pub looked_there : {reel : List ℕ} {offset : ℕ} {window : List ℕ} {at : ℕ} {is_last : Bool} {s : Result Tile NoTile} → Shows reel offset window at → LastIs is_last reel offset window
     → LookTold window at is_last s → There reel (offset + at) offset s
 looked_there shows last (a_tile told) = settled_there shows told tt
 looked_there shows last (the_end told) = last_there shows (last refl) told
@@ -147,6 +147,6 @@ looked_there shows last (more_behind told) = tt
 looked_there shows last (more_of_it told) = tt
 
 -- and with room for the largest record it never does
-pub large_looked : {window : List ℕ} {at : ℕ} {is_last : Bool} → at + 65550 ≤ length window → LookTold window at is_last step.More → ⊥
+pub large_looked : {window : List ℕ} {at : ℕ} {is_last : Bool} → at + 65550 ≤ length window → LookTold window at is_last (Err no_tile.More) → ⊥
 large_looked h (more_behind told) = large_settles h told
 large_looked h (more_of_it told) = large_settles h told refl

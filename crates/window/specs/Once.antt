@@ -1,5 +1,5 @@
 -- The contracts settle the answers and the bytes: two outcomes that are allowed of one window are the same. Assumes nothing.
-use Rattle.std.specs.Prelude.{◌≡◌, refl, Bool, true, false, cond, List, ℕ, ◌+◌, eqb, length}
+use Rattle.std.specs.Prelude.{◌≡◌, refl, Result, Ok, Err, Bool, true, false, cond, List, ℕ, ◌+◌, eqb, length}
 use Rattle.std.proofs.Common.{sym, ap, subst, ◌∙◌, ne_eqb}
 use Rattle.code.specs.Tile.{tile_length}
 use Rattle.code.specs.declared.Line.{Line}
@@ -12,35 +12,35 @@ use Rattle.reel.specs.Answer as reel
 use Rattle.reel.specs.Calls.{NextTold}
 use Rattle.reel.specs.Once.{next_told_once, tile_once}
 use Rattle.reel.specs.declared.Tile.{Tile}
-use Rattle.window.specs.Window.{LookTold, a_tile, the_end, last_stop, stop, more_behind, more_of_it, IsOver, goal_of, Seeks, comes, passes}
+use Rattle.window.specs.Window.{LookTold, a_tile, the_end, last_stop, stop, more_behind, more_of_it, IsOver, Seeks, comes, passes}
 use Rattle.window.specs.Treat.{tile_bytes, WhyNot, OnTile, there, no_tile, RestoresAt, FillsAt, CorrectsAt, ReadsAt}
-use Rattle.window.specs.declared.Step.{Step}
-use Rattle.window.specs.declared.Step.TheVariants as step
+use Rattle.window.specs.declared.NoTile.{NoTile}
+use Rattle.window.specs.declared.NoTile.TheVariants as no_tile
 use Rattle.window.specs.declared.Sought.{Sought}
 
 -- ---- a look
 
 -- what is said by what stands there
-abbrev look_of : Bool → reel.Said → Step
-look_of last (reel.tile t) = step.Tile t
-look_of true reel.end = step.End
-look_of false reel.end = step.More
-look_of true (reel.refused n from) = step.Stopped (refusal_of n) from
-look_of false (reel.refused n from) = cond (eqb n 7) step.More (step.Stopped (refusal_of n) from)
+abbrev look_of : Bool → reel.Said → Result Tile NoTile
+look_of last (reel.tile t) = Ok t
+look_of true reel.end = Err no_tile.End
+look_of false reel.end = Err no_tile.More
+look_of true (reel.refused n from) = Err (no_tile.Stopped (refusal_of n) from)
+look_of false (reel.refused n from) = cond (eqb n 7) (Err no_tile.More) (Err (no_tile.Stopped (refusal_of n) from))
 
-abbrev LookIs : List ℕ → ℕ → Bool → Step → Type 0
+abbrev LookIs : List ℕ → ℕ → Bool → Result Tile NoTile → Type 0
 LookIs window at last s = (said : reel.Said) × NextTold window at said × (s ≡ look_of last said)
 
-look_is : {window : List ℕ} {at : ℕ} {last : Bool} {s : Step} → LookTold window at last s → LookIs window at last s
+look_is : {window : List ℕ} {at : ℕ} {last : Bool} {s : Result Tile NoTile} → LookTold window at last s → LookIs window at last s
 look_is {last = last} (a_tile {t = t} told) = (reel.tile t, told, refl)
 look_is (the_end told) = (reel.end, told, refl)
-look_is (last_stop {r} {from} told) = (reel.refused (number_of r) from, told, ap (λ x. step.Stopped x from) (sym (back r)))
+look_is (last_stop {r} {from} told) = (reel.refused (number_of r) from, told, ap (λ x. Err (no_tile.Stopped x from)) (sym (back r)))
 look_is (stop {r} {from} told other) =
-    (reel.refused (number_of r) from, told, ap (λ x. step.Stopped x from) (sym (back r)) ∙ sym (ap (λ (b : Bool). cond b step.More (step.Stopped (refusal_of (number_of r)) from)) (ne_eqb (number_of r) 7 other)))
+    (reel.refused (number_of r) from, told, ap (λ x. Err (no_tile.Stopped x from)) (sym (back r)) ∙ sym (ap (λ (b : Bool). cond b (Err no_tile.More) (Err (no_tile.Stopped (refusal_of (number_of r)) from))) (ne_eqb (number_of r) 7 other)))
 look_is (more_behind told) = (reel.end, told, refl)
 look_is (more_of_it {from} told) = (reel.refused 7 from, told, refl)
 
-pub look_once : {window : List ℕ} {at : ℕ} {last : Bool} {a b : Step} → LookTold window at last a → LookTold window at last b → a ≡ b
+pub look_once : {window : List ℕ} {at : ℕ} {last : Bool} {a b : Result Tile NoTile} → LookTold window at last a → LookTold window at last b → a ≡ b
 look_once {window} {at} {last} x y =
     let p = look_is x in
     let q = look_is y in
@@ -49,7 +49,7 @@ look_once {window} {at} {last} x y =
 -- ---- a search
 
 -- where it is over, no tile is passed
-over_there : {window : List ℕ} {at at' : ℕ} {last : Bool} {number : ℕ} {s : Step} {t : Tile} → at ≡ at' → LookTold window at last s → IsOver number s
+over_there : {window : List ℕ} {at at' : ℕ} {last : Bool} {number : ℕ} {s : Result Tile NoTile} {t : Tile} → at ≡ at' → LookTold window at last s → IsOver number s
     → NextTold window at' (reel.tile t) → (t.number ≡ number → ⊥) → ⊥
 over_there {window} {at} {at'} {last} {number} {s} {t} e look over told other =
     other (subst (IsOver number) (look_once look (a_tile (subst (λ (k : ℕ). NextTold window k (reel.tile t)) (sym e) told))) over)
@@ -57,7 +57,7 @@ over_there {window} {at} {at'} {last} {number} {s} {t} e look over told other =
 same_search : {window : List ℕ} {last : Bool} {number at at' n : ℕ} {a b : Sought} → at ≡ at' → Seeks window last number at n a → Seeks window last number at' n b → a ≡ b
 same_search {window} {last} e (comes {n = n} {s} x over) (comes {s = s'} y over') =
     let same = look_once (subst (λ (k : ℕ). LookTold window k last s) e x) y in
-    λ i. record { place = e i; tiles = n; goal = goal_of (same i) }
+    λ i. record { place = e i; tiles = n; goal = same i }
 same_search e (comes x over) (passes y other more) = absurd (over_there e x over y other)
 same_search e (passes x other more) (comes y over) = absurd (over_there (sym e) y over x other)
 same_search {window} {at' = at'} e (passes {t = t} x other more) (passes {t = u} y other' more') =

@@ -1,5 +1,5 @@
 -- Wrong programs, each broken by a theorem: no such program meets its contract. Assumes nothing.
-use Rattle.std.specs.Prelude.{◌≡◌, refl, Bool, false, List, [], ◌∷◌, ℕ, ◌+◌, ◌<◌, get_or, drop}
+use Rattle.std.specs.Prelude.{◌≡◌, refl, Err, Bool, false, List, [], ◌∷◌, ℕ, ◌+◌, ◌<◌, get_or, drop}
 use Rattle.std.proofs.Common.{sym, ap, subst, ◌∙◌, arith}
 use Rattle.std.proofs.Math.Seq.{paste}
 use Rattle.size.specs.declared.Refusal.TheVariants.{CutShort}
@@ -16,17 +16,17 @@ use Rattle.reel.specs.declared.Tile.{Tile}
 use Rattle.window.specs.Window.{LookTold, stop, Seeks, comes, passes}
 use Rattle.window.specs.Treat.{there, no_tile, FillsAt, CorrectsAt}
 use Rattle.window.specs.Untouched.{before, untouched}
-use Rattle.window.specs.declared.Step.TheVariants as step
+use Rattle.window.specs.declared.NoTile.TheVariants as no_tile
 use Rattle.window.specs.declared.Sought.{Sought}
 
 -- ---- look
 
 -- one that takes the end of a window for that of the reel
-pub ends_with_the_window : {window : List ℕ} {at : ℕ} → LookTold window at false step.End → ⊥
+pub ends_with_the_window : {window : List ℕ} {at : ℕ} → LookTold window at false (Err no_tile.End) → ⊥
 ends_with_the_window = elim [ ]
 
 -- one that refuses a record that the window cuts
-pub stops_at_the_edge : {window : List ℕ} {at from : ℕ} → LookTold window at false (step.Stopped CutShort from) → ⊥
+pub stops_at_the_edge : {window : List ℕ} {at from : ℕ} → LookTold window at false (Err (no_tile.Stopped CutShort from)) → ⊥
 stops_at_the_edge (stop told other) = other refl
 
 -- ---- seek

@@ -1,10 +1,12 @@
 -- WHAT A READER MUST BELIEVE: what becomes of a window when one of its tiles is restored, filled, corrected or read where it stands (SPEC
 -- 12.2 and 12.3). The tile's bytes become what the call on a tile promises; every other byte, those of the headers too, stays. Assumes
 -- nothing.
-use Rattle.std.specs.Prelude.{◌≡◌, List, ◌++◌, ℕ, ◌+◌, ◌≤◌, length, take, drop}
+use Rattle.std.specs.Prelude.{◌≡◌, Result, Ok, Err, List, ◌++◌, ℕ, ◌+◌, ◌≤◌, length, take, drop}
 use Rattle.residue.specs.Size.{Size}
 use Rattle.code.specs.Tile.{tile_length}
 use Rattle.code.specs.declared.Line.{Line}
+use Rattle.size.specs.Refusal.{number_of}
+use Rattle.size.specs.declared.Refusal.{Refusal}
 use Rattle.promise.specs.Answer as tile
 use Rattle.promise.specs.Calls.{FillTold, ReadTold}
 use Rattle.restorer.specs.Restore.{RestoreTold}
@@ -38,6 +40,11 @@ abbrev pub WhyNot : reel.Said → ℕ → Type 0
 WhyNot (reel.tile t) n = Unit {0}
 WhyNot reel.end n = n ≡ 7
 WhyNot (reel.refused m from) n = n ≡ m
+
+-- SPEC 12.3: the tile at a place, or why nothing is done there
+abbrev pub TileTold : List ℕ → ℕ → Result Tile Refusal → Type 0
+TileTold window at (Ok t) = NextTold window at (reel.tile t)
+TileTold window at (Err r) = (said : reel.Said) × NextTold window at said × reel.NoTile said × WhyNot said (number_of r)
 
 -- SPEC 12.3: what a call makes of the tile at a place: what it promises of the tile's bytes, put back; or it is refused and all stays the
 -- same

@@ -1,16 +1,14 @@
 -- WHAT A READER MUST BELIEVE: what stands at a place of a window (SPEC 12.9), and what a search along it comes to (SPEC 12.3). Assumes
 -- nothing.
-use Rattle.std.specs.Prelude.{◌≡◌, Bool, true, false, List, ℕ, ◌+◌, ◌≤◌, ◌<◌, length, get_or}
+use Rattle.std.specs.Prelude.{◌≡◌, Result, Ok, Err, Bool, true, false, List, ℕ, ◌+◌, ◌≤◌, ◌<◌, length, get_or}
 use Rattle.code.specs.Tile.{tile_length}
 use Rattle.size.specs.Refusal.{number_of}
 use Rattle.size.specs.declared.Refusal.{Refusal}
 use Rattle.reel.specs.Answer.{tile, end, refused}
 use Rattle.reel.specs.Calls.{NextTold}
 use Rattle.reel.specs.declared.Tile.{Tile}
-use Rattle.window.specs.declared.Step.{Step}
-use Rattle.window.specs.declared.Step.TheVariants as step
-use Rattle.window.specs.declared.Goal.{Goal}
-use Rattle.window.specs.declared.Goal.TheVariants as goal
+use Rattle.window.specs.declared.NoTile.{NoTile}
+use Rattle.window.specs.declared.NoTile.TheVariants as no_tile
 use Rattle.window.specs.declared.Sought.{Sought}
 
 -- SPEC 12.9: a window shows a reel: it begins at an offset of it, and from a place on it holds the reel's bytes (those before the place may
@@ -20,29 +18,21 @@ pub record Shows (reel : List ℕ) (offset : ℕ) (window : List ℕ) (from : �
   pub same : (n : ℕ) → from ≤ n → n < length window → get_or window n 0 ≡ get_or reel (offset + n) 0
 
 -- SPEC 12.9: LOOK. What stands at a place of the last window; in any other, no end and no 7 is settled
-pub data LookTold (window : List ℕ) (at : ℕ) : Bool → Step → Type 0 where
-  a_tile : {last : Bool} {t : Tile} → NextTold window at (tile t) → LookTold window at last (step.Tile t)
-  the_end : NextTold window at end → LookTold window at true step.End
-  last_stop : {r : Refusal} {from : ℕ} → NextTold window at (refused (number_of r) from) → LookTold window at true (step.Stopped r from)
-  stop : {r : Refusal} {from : ℕ} → NextTold window at (refused (number_of r) from) → (number_of r ≡ 7 → ⊥) → LookTold window at false (step.Stopped r from)
-  more_behind : NextTold window at end → LookTold window at false step.More
-  more_of_it : {from : ℕ} → NextTold window at (refused 7 from) → LookTold window at false step.More
+pub data LookTold (window : List ℕ) (at : ℕ) : Bool → Result Tile NoTile → Type 0 where
+  a_tile : {last : Bool} {t : Tile} → NextTold window at (tile t) → LookTold window at last (Ok t)
+  the_end : NextTold window at end → LookTold window at true (Err no_tile.End)
+  last_stop : {r : Refusal} {from : ℕ} → NextTold window at (refused (number_of r) from) → LookTold window at true (Err (no_tile.Stopped r from))
+  stop : {r : Refusal} {from : ℕ} → NextTold window at (refused (number_of r) from) → (number_of r ≡ 7 → ⊥) → LookTold window at false (Err (no_tile.Stopped r from))
+  more_behind : NextTold window at end → LookTold window at false (Err no_tile.More)
+  more_of_it : {from : ℕ} → NextTold window at (refused 7 from) → LookTold window at false (Err no_tile.More)
 
--- SPEC 12.3: a search is over where a tile has the number, and where no tile is looked at; and what it has come to then
-abbrev pub IsOver : ℕ → Step → Type 0
-IsOver number (step.Tile t) = t.number ≡ number
-IsOver number step.End = Unit {0}
-IsOver number (step.Stopped r from) = Unit {0}
-IsOver number step.More = Unit {0}
-
-abbrev pub goal_of : Step → Goal
-goal_of (step.Tile t) = goal.Here t
-goal_of step.End = goal.End
-goal_of (step.Stopped r from) = goal.Stopped r from
-goal_of step.More = goal.More
+-- SPEC 12.3: a search is over where a tile has the number, and where no tile is looked at
+abbrev pub IsOver : ℕ → Result Tile NoTile → Type 0
+IsOver number (Ok t) = t.number ≡ number
+IsOver number (Err why) = Unit {0}
 
 -- SPEC 12.3: SEEK. From a place on, behind so many tiles, a search passes each tile that has another number, and comes to what ends it
 pub data Seeks (window : List ℕ) (last : Bool) (number : ℕ) : ℕ → ℕ → Sought → Type 0 where
-  comes : {at n : ℕ} {s : Step} → LookTold window at last s → IsOver number s → Seeks window last number at n (record { place = at; tiles = n; goal = goal_of s })
+  comes : {at n : ℕ} {s : Result Tile NoTile} → LookTold window at last s → IsOver number s → Seeks window last number at n (record { place = at; tiles = n; goal = s })
   passes : {at n : ℕ} {t : Tile} {r : Sought} → NextTold window at (tile t) → (t.number ≡ number → ⊥)
       → Seeks window last number (t.at + tile_length t.p) (n + 1) r → Seeks window last number at n r

@@ -4,10 +4,8 @@
 
 pub mod one;
 
-ghost use Rattle.std.specs.Prelude.{◌≡◌, ◌+◌, ◌-◌, ◌≤◌, length, drop};
+ghost use Rattle.std.specs.Prelude.{◌≡◌, ◌-◌, ◌≤◌, length, drop};
 ghost use Rattle.std.proofs.Math.Seq.{paste};
-ghost use Rattle.residue.specs.Size.{Size};
-ghost use Rattle.code.specs.Tile.{tile_length};
 ghost use Rattle.promise.specs.Answer.{restore_said};
 ghost use Rattle.window.specs.Window.{LookTold, Seeks};
 ghost use Rattle.window.specs.Treat.{Within, RestoredIn};
@@ -16,65 +14,46 @@ use promise::Restored;
 use reel::{Found, Tile};
 use size::Refusal;
 
-// What stands at a place of a window: what stands there on the reel, or more of the reel is needed to say it.
+// What stands at a place of a window where no tile does: the end of the reel, a refusal with the offset at which the record begins, or more
+// of the reel is needed to say it.
 #[derive(Clone, Copy)]
-pub enum Step {
-    Tile(Tile),
+pub enum NoTile {
     End,
     Stopped(Refusal, usize),
     More,
 }
 
-// What stands at a place. In the last window of a reel nothing is missing; in any other, no end is the reel's, and no record is cut short
-// but by the window.
-pub fn look(window: &[u8], at: usize, last: bool) -> Step
+// The tile at a place. In the last window of a reel nothing is missing; in any other, no end is the reel's, and no record is cut short but
+// by the window.
+#[tactic(auto, using(crate::specs::Going::cut, crate::specs::Going::stops_last, crate::specs::Going::stops))]
+pub fn look(window: &[u8], at: usize, last: bool) -> Result<Tile, NoTile>
     ensures { LookTold window.now at last result }
 {
     match reel::next(window, at) {
-        Found::Tile(tile) => Step::Tile(tile),
-        Found::End => { if last { Step::End } else { Step::More } }
-        Found::Refused(refusal, from) => {
-            if last {
-                return Step::Stopped(refusal, from);
-            }
-            if size::number(refusal) == 7 {
-                return Step::More;
-            }
-            Step::Stopped(refusal, from)
-        }
+        Found::Tile(tile) => Ok(tile),
+        Found::End => Err(if last { NoTile::End } else { NoTile::More }),
+        Found::Refused(refusal, from) => match refusal {
+            Refusal::CutShort if !last => Err(NoTile::More),
+            _ => Err(NoTile::Stopped(refusal, from)),
+        },
     }
 }
 
-// Where the record of a tile ends.
-pub fn behind(tile: Tile) -> usize
-    requires size { Size tile.p }
-    requires p_bound { tile.at + tile_length tile.p ≤ 9223372036854775807 }
-    ensures { result ≡ tile.at + tile_length tile.p }
-{
-    let p = tile.p;
-    tile.at + (p - 1) * (p - 1)
-}
-
 // Restores a tile where it stands.
-pub fn restore(window: &mut [u8], tile: Tile) -> Restored
+pub fn restore(window: &mut [u8], tile: Tile) -> Result<Restored, Refusal>
     requires { Within window.old tile }
     ensures { RestoredIn window.old tile (restore_said result) window.new }
 {
     let start = tile.at;
-    let end = behind(tile);
-    let kind = tile.kind;
-    let first = tile.first;
-    let second = tile.second;
-    restorer::restore(kind, tile.p, tile.l, &mut window[start..end], first, second)
-}
-
-// What a search for a tile comes to.
-#[derive(Clone, Copy)]
-pub enum Goal {
-    Here(Tile),
-    More,
-    End,
-    Stopped(Refusal, usize),
+    let end = tile.behind();
+    restorer::restore(
+        tile.kind,
+        tile.p,
+        tile.l,
+        &mut window[start..end],
+        tile.first,
+        tile.second,
+    )
 }
 
 // A search: its place, the tiles that it passed, and what it came to.
@@ -82,7 +61,7 @@ pub enum Goal {
 pub struct Sought {
     pub place: usize,
     pub tiles: usize,
-    pub goal: Goal,
+    pub goal: Result<Tile, NoTile>,
 }
 
 // Looks for the first tile with a number, from a place on, behind so many tiles.
@@ -93,37 +72,17 @@ pub fn seek(window: &[u8], from: usize, last: bool, tiles: usize, number: usize)
     let mut place = from;
     let mut passed = tiles;
     loop {
-        match look(window, place, last) {
-            Step::Tile(tile) => {
-                if tile.number == number {
-                    return Sought {
-                        place,
-                        tiles: passed,
-                        goal: Goal::Here(tile),
-                    };
-                }
-                place = behind(tile);
+        let goal = look(window, place, last);
+        match goal {
+            Ok(tile) if tile.number != number => {
+                place = tile.behind();
                 passed += 1;
             }
-            Step::More => {
+            _ => {
                 return Sought {
                     place,
                     tiles: passed,
-                    goal: Goal::More,
-                };
-            }
-            Step::End => {
-                return Sought {
-                    place,
-                    tiles: passed,
-                    goal: Goal::End,
-                };
-            }
-            Step::Stopped(refusal, at) => {
-                return Sought {
-                    place,
-                    tiles: passed,
-                    goal: Goal::Stopped(refusal, at),
+                    goal,
                 };
             }
         }
@@ -135,12 +94,7 @@ pub fn move_down(window: &mut [u8], from: usize) -> usize
     ensures value { result ≡ length window.old - from }
     ensures window_after { window.new ≡ paste window.old 0 (drop from window.old) result }
 {
-    let mut k = 0;
-    let mut i = from;
-    while i < window.len() {
-        window[k] = window[i];
-        k += 1;
-        i += 1;
-    }
-    k
+    let start = from.min(window.len());
+    window.copy_within(start.., 0);
+    window.len() - start
 }

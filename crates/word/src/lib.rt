@@ -10,10 +10,9 @@ ghost use Rattle.word.specs.Word as spec;
 
 use code::Kind;
 use header::Mark;
-use promise::Outcome;
-use size::{Judgement, Refusal};
+use size::Refusal;
 
-// The kinds of an answer. Done stands for clean and for a tile too.
+// The kinds of an answer. Done stands for clean and for a tile too. (Numbers, since include/counterfrost.h has the same ones.)
 pub const DONE: u16 = 0;
 
 pub const COLUMN: u16 = 1;
@@ -30,7 +29,7 @@ pub const END: u16 = 7;
 pub fn word(kind: u16, first: u16, second: u16) -> u64
     ensures { result ≡ spec.word (spec.answer kind first second) }
 {
-    kind as u64 * 0x100000000 + first as u64 * 0x10000 + second as u64
+    u64::from(kind) * 0x100000000 + u64::from(first) * 0x10000 + u64::from(second)
 }
 
 // Done, clean or a tile.
@@ -54,23 +53,14 @@ pub fn end() -> u64
     word(END, 0, 0)
 }
 
-// What a size and a slope are judged to be.
-pub fn of_judgement(answer: Judgement) -> u64
-    ensures { result ≡ spec.word (spec.size_answer (judgement_said answer)) }
+// What is done, or refused: what a size and a slope are judged to be, and what write, read, fill and judge answer.
+pub fn outcome(answer: Result<(), Refusal>) -> u64
+    ensures judged { result ≡ spec.word (spec.size_answer (judgement_said answer)) }
+    ensures called { result ≡ spec.word (spec.tile_answer (outcome_said answer)) }
 {
     match answer {
-        Judgement::Taken => done(),
-        Judgement::Refused(refusal) => refused(refusal),
-    }
-}
-
-// What write, read, fill and judge answer.
-pub fn of_outcome(answer: Outcome) -> u64
-    ensures { result ≡ spec.word (spec.tile_answer (outcome_said answer)) }
-{
-    match answer {
-        Outcome::Done => done(),
-        Outcome::Refused(refusal) => refused(refusal),
+        Ok(()) => done(),
+        Err(refusal) => refused(refusal),
     }
 }
 
@@ -82,10 +72,14 @@ pub fn version() -> u64
 }
 
 // The kind that a number stands for: 1 is old, and every other one new, the stricter of the two.
+#[tactic(auto, unfolding(crate::specs::Word::tile_kind))]
 pub fn kind(n: usize) -> Kind
     ensures { result ≡ spec.tile_kind n }
 {
-    if n == 1 { Kind::Old } else { Kind::New }
+    match n {
+        1 => Kind::Old,
+        _ => Kind::New,
+    }
 }
 
 // The number of a kind.
@@ -99,14 +93,13 @@ pub fn kind_number(kind: Kind) -> u64
 }
 
 // Which record a number stands for: 1 is that of an old tile, 2 the flagged one, and every other that of a new tile.
+#[tactic(auto, unfolding(crate::specs::Word::mark_of))]
 pub fn mark(n: usize) -> Mark
     ensures { result ≡ spec.mark_of n }
 {
-    if n == 1 {
-        return Mark::Old;
+    match n {
+        1 => Mark::Old,
+        2 => Mark::Flagged,
+        _ => Mark::Plain,
     }
-    if n == 2 {
-        return Mark::Flagged;
-    }
-    Mark::Plain
 }

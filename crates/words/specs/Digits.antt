@@ -1,10 +1,10 @@
 -- A number as the code reads it: what is held once the first i signs are read, and what one more comes to. Assumes nothing.
-use Rattle.std.specs.Prelude.{◌≡◌, refl, List, [], ◌∷◌, ◌++◌, ℕ, ◌+◌, ◌*◌, ◌-◌, ◌≤◌, ◌<◌, length, get_or, take}
+use Rattle.std.specs.Prelude.{◌≡◌, refl, Ok, Err, List, [], ◌∷◌, ◌++◌, ℕ, ◌+◌, ◌*◌, ◌-◌, ◌≤◌, ◌<◌, length, get_or, take}
 use Prim.Native.Char.{code}
 use Rattle.std.proofs.Common.{arith, add-one, below_more, take-suc, take_all}
 use Rattle.std.proofs.Math.Decide.{dec_le}
 use Rattle.words.specs.Words.{Digit, Decimal, value_from, value_of, largest, AmountIs, value, too_large, no_number}
-use Rattle.words.specs.declared.Amount.TheVariants as amount
+use Rattle.words.specs.declared.NoNumber.TheVariants.{TooLarge, NotDigits}
 
 -- one more digit behind the others: ten times what they come to, and the digit
 pub value_more : (before : ℕ) (word : List ℕ) (sign : ℕ)
@@ -55,16 +55,16 @@ module _ (word : List ℕ) (n i : ℕ) (held : Held word n i) (end : length word
   decimal : Decimal word
   decimal = record { some = some; digits = λ k h. held.digits k (omega arith) }
 
-  pub is_value : n ≤ largest → AmountIs word (amount.Is n)
+  pub is_value : n ≤ largest → AmountIs word (Ok n)
   is_value h = value decimal (rw (take_all i word) at (held.low h)) h
 
   -- .. or the value is too large
-  pub is_large : largest < n → AmountIs word amount.TooLarge
+  pub is_large : largest < n → AmountIs word (Err TooLarge)
   is_large h = too_large decimal (rw (take_all i word) at (held.high h))
 
 -- a word with a sign that is no digit is no number, and so is one without signs
-pub not_digit : (word : List ℕ) (i : ℕ) → i < length word → (Digit (get_or word i 0) → ⊥) → AmountIs word amount.No
+pub not_digit : (word : List ℕ) (i : ℕ) → i < length word → (Digit (get_or word i 0) → ⊥) → AmountIs word (Err NotDigits)
 not_digit word i h f = no_number (λ d. f (d.digits i h))
 
-pub empty : (word : List ℕ) → length word ≡ 0 → AmountIs word amount.No
+pub empty : (word : List ℕ) → length word ≡ 0 → AmountIs word (Err NotDigits)
 empty word e = no_number (λ d. omega (arith, d.some))

@@ -1,6 +1,7 @@
 -- The contracts settle the answers: two answers that are right for the same word are the same. Assumes nothing.
-use Rattle.std.specs.Prelude.{◌≡◌, refl, cond, List, ◌++◌, ℕ, ◌+◌, ◌*◌, eqb, length, get_or}
+use Rattle.std.specs.Prelude.{◌≡◌, refl, cond, Option, Some, Result, Ok, Err, List, ◌++◌, ℕ, ◌+◌, ◌*◌, eqb, length, get_or}
 use Rattle.std.proofs.Common.{sym, ap, ◌∙◌, arith}
+use Rattle.code.specs.declared.Line.{Line}
 use Rattle.code.specs.declared.Line.TheVariants.{Row, Column}
 use Rattle.lettering.specs.Line.{ascii}
 use Rattle.words.specs.Words.{Names, VerbIs, names, names_none, Begins, SortIs, plain, force, text, unknown, AmountIs, value, too_large, no_number, Behind, LineIs, row, column, no_line}
@@ -8,10 +9,8 @@ use Rattle.words.specs.Begin.{behind}
 use Rattle.words.specs.declared.Verb.{Verb}
 use Rattle.words.specs.declared.Verb.TheVariants as verb
 use Rattle.words.specs.declared.Sort.{Sort}
-use Rattle.words.specs.declared.Amount.{Amount}
-use Rattle.words.specs.declared.Amount.TheVariants as amount
-use Rattle.words.specs.declared.Named.{Named}
-use Rattle.words.specs.declared.Named.TheVariants as named
+use Rattle.words.specs.declared.NoNumber.{NoNumber}
+use Rattle.words.specs.declared.NoNumber.TheVariants.{TooLarge, NotDigits}
 
 -- ---- commands
 
@@ -41,21 +40,20 @@ back word verb.Fill e = ap (λ (l : List ℕ). marked (mark l)) e
 back word verb.Correct e = ap (λ (l : List ℕ). marked (mark l)) e
 back word verb.Help e = ap (λ (l : List ℕ). marked (mark l)) e
 back word verb.Version e = ap (λ (l : List ℕ). marked (mark l)) e
-back word verb.Other e = absurd e
 
 -- a word names one command, and of one word one command is said
 pub named_once : (word : List ℕ) (v w : Verb) → Names word v → Names word w → v ≡ w
 named_once word v w a b = sym (back word v a) ∙ back word w b
 
-pub verb_once : (word : List ℕ) (v w : Verb) → VerbIs word v → VerbIs word w → v ≡ w
-verb_once word v w (names a) (names b) = named_once word v w a b
-verb_once word v w (names a) (names_none f) = absurd (f v a)
-verb_once word v w (names_none f) (names b) = absurd (f w b)
-verb_once word v w (names_none f) (names_none g) = refl
+pub verb_once : (word : List ℕ) (a b : Option Verb) → VerbIs word a → VerbIs word b → a ≡ b
+verb_once word a b (names {v} m) (names {v = w} n) = ap (λ (x : Verb). Some x) (named_once word v w m n)
+verb_once word a b (names {v} m) (names_none f) = absurd (f v m)
+verb_once word a b (names_none f) (names {v} n) = absurd (f v n)
+verb_once word a b (names_none f) (names_none g) = refl
 
 -- so a command's name is recognised: whatever answer is right for it is that command
-pub name_taken : (word : List ℕ) (v : Verb) → Names word v → (w : Verb) → VerbIs word w → w ≡ v
-name_taken word v n w a = verb_once word w v a (names n)
+pub name_taken : (word : List ℕ) (v : Verb) → Names word v → (r : Option Verb) → VerbIs word r → r ≡ Some v
+name_taken word v n r a = verb_once word r (Some v) a (names n)
 
 -- ---- options
 
@@ -69,7 +67,7 @@ text_begins e = record { rest = ascii "text"; is = e }
 force_not_text : {word : List ℕ} → word ≡ ascii "--force" → word ≡ ascii "--text" → ⊥
 force_not_text e f = let z = ap length (sym e ∙ f) in omega arith
 
-pub sort_once : (word : List ℕ) (a b : Sort) → SortIs word a → SortIs word b → a ≡ b
+pub sort_once : (word : List ℕ) (a b : Option Sort) → SortIs word a → SortIs word b → a ≡ b
 sort_once word a b (plain f) (plain g) = refl
 sort_once word a b (plain f) (force e) = absurd (f (force_begins e))
 sort_once word a b (plain f) (text e) = absurd (f (text_begins e))
@@ -89,8 +87,8 @@ sort_once word a b (unknown o f g) (unknown o' f' g') = refl
 
 -- ---- numbers
 
-pub amount_once : (word : List ℕ) (a b : Amount) → AmountIs word a → AmountIs word b → a ≡ b
-amount_once word a b (value d e l) (value d' e' l') = ap amount.Is (sym e ∙ e')
+pub amount_once : (word : List ℕ) (a b : Result ℕ NoNumber) → AmountIs word a → AmountIs word b → a ≡ b
+amount_once word a b (value d e l) (value d' e' l') = ap (λ (n : ℕ). Ok n) (sym e ∙ e')
 amount_once word a b (value d e l) (too_large d' m) = absurd (omega arith)
 amount_once word a b (value d e l) (no_number f) = absurd (f d)
 amount_once word a b (too_large d m) (value d' e l) = absurd (omega arith)
@@ -101,11 +99,11 @@ amount_once word a b (no_number f) (too_large d m) = absurd (f d)
 amount_once word a b (no_number f) (no_number g) = refl
 
 -- a word that is too large, or no number, says no number n
-pub large_no : {word : List ℕ} → AmountIs word amount.TooLarge → (n : ℕ) → AmountIs word (amount.Is n) → ⊥
-large_no {word} a n b = let e = amount_once word amount.TooLarge (amount.Is n) a b in let z : ◌≡◌ {A = ℕ} 0 1 = cc in omega arith
+pub large_no : {word : List ℕ} → AmountIs word (Err TooLarge) → (n : ℕ) → AmountIs word (Ok n) → ⊥
+large_no {word} a n b = let e = amount_once word (Err TooLarge) (Ok n) a b in let z : ◌≡◌ {A = ℕ} 0 1 = cc in omega arith
 
-pub word_no : {word : List ℕ} → AmountIs word amount.No → (n : ℕ) → AmountIs word (amount.Is n) → ⊥
-word_no {word} a n b = let e = amount_once word amount.No (amount.Is n) a b in let z : ◌≡◌ {A = ℕ} 0 1 = cc in omega arith
+pub word_no : {word : List ℕ} → AmountIs word (Err NotDigits) → (n : ℕ) → AmountIs word (Ok n) → ⊥
+word_no {word} a n b = let e = amount_once word (Err NotDigits) (Ok n) a b in let z : ◌≡◌ {A = ℕ} 0 1 = cc in omega arith
 
 -- ---- lines
 
@@ -117,15 +115,15 @@ row_not_column e f = let z = ap (λ (l : List ℕ). get_or l 0 0) (sym e ∙ f) 
 behind_once : (first word : List ℕ) (m n : ℕ) → Behind first word m → Behind first word n → m ≡ n
 behind_once first word m n a b =
     let rests : a.rest ≡ b.rest = behind first word a.rest a.is ∙ sym (behind first word b.rest b.is) in
-    let e = amount_once b.rest (amount.Is m) (amount.Is n) (rw rests at a.number) b.number in
+    let e = amount_once b.rest (Ok m) (Ok n) (rw rests at a.number) b.number in
     cc
 
-pub line_once : (word : List ℕ) (a b : Named) → LineIs word a → LineIs word b → a ≡ b
-line_once word a b (row {n = m} r) (row {n = n} s) = ap (λ (k : ℕ). named.Is (Row k)) (behind_once (ascii "row:") word m n r s)
+pub line_once : (word : List ℕ) (a b : Option Line) → LineIs word a → LineIs word b → a ≡ b
+line_once word a b (row {n = m} r) (row {n = n} s) = ap (λ (k : ℕ). Some (Row k)) (behind_once (ascii "row:") word m n r s)
 line_once word a b (row r) (column s) = absurd (row_not_column r.is s.is)
 line_once word a b (row {n = m} r) (no_line f g) = absurd (f m r)
 line_once word a b (column r) (row s) = absurd (row_not_column s.is r.is)
-line_once word a b (column {n = m} r) (column {n = n} s) = ap (λ (k : ℕ). named.Is (Column k)) (behind_once (ascii "column:") word m n r s)
+line_once word a b (column {n = m} r) (column {n = n} s) = ap (λ (k : ℕ). Some (Column k)) (behind_once (ascii "column:") word m n r s)
 line_once word a b (column {n = m} r) (no_line f g) = absurd (g m r)
 line_once word a b (no_line f g) (row {n = n} s) = absurd (f n s)
 line_once word a b (no_line f g) (column {n = n} s) = absurd (g n s)

@@ -1,37 +1,39 @@
 -- WHAT A READER MUST BELIEVE: which command, which option, which number and which line of a tile a word is, and which words a command takes
 -- (SPEC 12 and 12.1). A word is the list of its bytes. Assumes nothing.
-use Rattle.std.specs.Prelude.{◌≡◌, List, [], ◌∷◌, ◌++◌, ℕ, ◌+◌, ◌*◌, ◌-◌, ◌≤◌, ◌<◌, length, get_or}
+use Rattle.std.specs.Prelude.{◌≡◌, Option, Some, None, Result, Ok, Err, List, [], ◌∷◌, ◌++◌, ℕ, ◌+◌, ◌*◌, ◌-◌, ◌≤◌, ◌<◌, length, get_or}
 use Prim.Native.Char.{code}
+use Rattle.code.specs.declared.Line.{Line}
 use Rattle.code.specs.declared.Line.TheVariants.{Row, Column}
 use Rattle.lettering.specs.Line.{ascii}
 use Rattle.words.specs.declared.Verb.{Verb}
 use Rattle.words.specs.declared.Verb.TheVariants as verb
 use Rattle.words.specs.declared.Sort.{Sort}
-use Rattle.words.specs.declared.Sort.TheVariants.{Plain, Force, Text, Unknown}
-use Rattle.words.specs.declared.Amount.{Amount}
-use Rattle.words.specs.declared.Amount.TheVariants as amount
-use Rattle.words.specs.declared.Named.{Named}
-use Rattle.words.specs.declared.Named.TheVariants as named
+use Rattle.words.specs.declared.Sort.TheVariants.{Plain, Force, Text}
+use Rattle.words.specs.declared.NoNumber.{NoNumber}
+use Rattle.words.specs.declared.NoNumber.TheVariants.{TooLarge, NotDigits}
 
 -- ---- commands
 
--- SPEC 12: the word is the name of the command. Other stands for no command, and no word is its name
-abbrev pub Names : List ℕ → Verb → Type 0
-Names word verb.List = word ≡ ascii "list"
-Names word verb.Repair = word ≡ ascii "repair"
-Names word verb.Map = word ≡ ascii "map"
-Names word verb.Read = word ≡ ascii "read"
-Names word verb.Write = word ≡ ascii "write"
-Names word verb.Fill = word ≡ ascii "fill"
-Names word verb.Correct = word ≡ ascii "correct"
-Names word verb.Help = word ≡ ascii "help"
-Names word verb.Version = word ≡ ascii "version"
-Names word verb.Other = ⊥
+-- SPEC 12: the names of the commands
+abbrev pub name_of : Verb → List ℕ
+name_of verb.List = ascii "list"
+name_of verb.Repair = ascii "repair"
+name_of verb.Map = ascii "map"
+name_of verb.Read = ascii "read"
+name_of verb.Write = ascii "write"
+name_of verb.Fill = ascii "fill"
+name_of verb.Correct = ascii "correct"
+name_of verb.Help = ascii "help"
+name_of verb.Version = ascii "version"
 
--- SPEC 12: the command that a word says is the one that it names, and Other where it names none
-pub data VerbIs (word : List ℕ) : Verb → Type 0 where
-  names : {v : Verb} → Names word v → VerbIs word v
-  names_none : ((v : Verb) → Names word v → ⊥) → VerbIs word verb.Other
+-- SPEC 12: the word is the name of the command
+abbrev pub Names : List ℕ → Verb → Type 0
+Names word v = word ≡ name_of v
+
+-- SPEC 12: the command that a word says is the one that it names, and none where it names none
+pub data VerbIs (word : List ℕ) : Option Verb → Type 0 where
+  names : {v : Verb} → Names word v → VerbIs word (Some v)
+  names_none : ((v : Verb) → Names word v → ⊥) → VerbIs word None
 
 -- ---- options
 
@@ -41,15 +43,15 @@ pub record Begins (first word : List ℕ) : Type 0 where
   pub is : word ≡ first ++ rest
 
 -- SPEC 12.1: an option is a word that begins with two hyphens
-abbrev pub Option : List ℕ → Type 0
-Option word = Begins (ascii "--") word
+abbrev pub IsOption : List ℕ → Type 0
+IsOption word = Begins (ascii "--") word
 
--- SPEC 12.1: the sort of a word: it is plain, or one of the two options that there are, or another option
-pub data SortIs (word : List ℕ) : Sort → Type 0 where
-  plain : (Option word → ⊥) → SortIs word Plain
-  force : word ≡ ascii "--force" → SortIs word Force
-  text : word ≡ ascii "--text" → SortIs word Text
-  unknown : Option word → (word ≡ ascii "--force" → ⊥) → (word ≡ ascii "--text" → ⊥) → SortIs word Unknown
+-- SPEC 12.1: the sort of a word: it is plain, or one of the two options that there are. Another option is of no sort
+pub data SortIs (word : List ℕ) : Option Sort → Type 0 where
+  plain : (IsOption word → ⊥) → SortIs word (Some Plain)
+  force : word ≡ ascii "--force" → SortIs word (Some Force)
+  text : word ≡ ascii "--text" → SortIs word (Some Text)
+  unknown : IsOption word → (word ≡ ascii "--force" → ⊥) → (word ≡ ascii "--text" → ⊥) → SortIs word None
 
 -- ---- numbers
 
@@ -75,10 +77,10 @@ abbrev pub largest : ℕ
 largest = 4294967295
 
 -- SPEC 12.1: what a word says as a number: its value, or that it is too large, or that it is no number
-pub data AmountIs (word : List ℕ) : Amount → Type 0 where
-  value : {n : ℕ} → Decimal word → value_of word ≡ n → n ≤ largest → AmountIs word (amount.Is n)
-  too_large : Decimal word → largest < value_of word → AmountIs word amount.TooLarge
-  no_number : (Decimal word → ⊥) → AmountIs word amount.No
+pub data AmountIs (word : List ℕ) : Result ℕ NoNumber → Type 0 where
+  value : {n : ℕ} → Decimal word → value_of word ≡ n → n ≤ largest → AmountIs word (Ok n)
+  too_large : Decimal word → largest < value_of word → AmountIs word (Err TooLarge)
+  no_number : (Decimal word → ⊥) → AmountIs word (Err NotDigits)
 
 -- ---- lines
 
@@ -86,13 +88,13 @@ pub data AmountIs (word : List ℕ) : Amount → Type 0 where
 pub record Behind (first word : List ℕ) (n : ℕ) : Type 0 where
   pub rest : List ℕ
   pub is : word ≡ first ++ rest
-  pub number : AmountIs rest (amount.Is n)
+  pub number : AmountIs rest (Ok n)
 
 -- SPEC 12.1: the line that a word names: it is `row:` or `column:` with a number behind it, or it names no line
-pub data LineIs (word : List ℕ) : Named → Type 0 where
-  row : {n : ℕ} → Behind (ascii "row:") word n → LineIs word (named.Is (Row n))
-  column : {n : ℕ} → Behind (ascii "column:") word n → LineIs word (named.Is (Column n))
-  no_line : ((n : ℕ) → Behind (ascii "row:") word n → ⊥) → ((n : ℕ) → Behind (ascii "column:") word n → ⊥) → LineIs word named.No
+pub data LineIs (word : List ℕ) : Option Line → Type 0 where
+  row : {n : ℕ} → Behind (ascii "row:") word n → LineIs word (Some (Row n))
+  column : {n : ℕ} → Behind (ascii "column:") word n → LineIs word (Some (Column n))
+  no_line : ((n : ℕ) → Behind (ascii "row:") word n → ⊥) → ((n : ℕ) → Behind (ascii "column:") word n → ⊥) → LineIs word None
 
 -- ---- what a command takes
 
@@ -107,7 +109,6 @@ fewest_words verb.Fill = 4
 fewest_words verb.Correct = 4
 fewest_words verb.Help = 0
 fewest_words verb.Version = 0
-fewest_words verb.Other = 0
 
 -- SPEC 12: the most of them. `fill` may name a second line, and `help` a command. `write` takes any number of TEXT: no system hands over
 -- as many words as the number here
@@ -121,7 +122,6 @@ most_words verb.Fill = 5
 most_words verb.Correct = 4
 most_words verb.Help = 1
 most_words verb.Version = 0
-most_words verb.Other = 0
 
 -- SPEC 12.1: the sorts of words that a command takes: plain ones always, and the options that are its own
 pub data Takes : Verb → Sort → Type 0 where

@@ -5,22 +5,24 @@ use script::look::look;
 use script::question::Told;
 
 // `held` may be changed by a call, `lent` is only read.
-pub fn ask(told: Told, held: &mut [u8], lent: &[u8]) {
-    let name = told.name;
-    let kind = told.kind;
-    let p = told.p;
-    let l = told.l;
-    let first = told.first;
-    let second = told.second;
+pub fn ask(rt: &HostRuntime, told: Told, held: &mut [u8], lent: &[u8]) {
+    let Told {
+        name,
+        kind,
+        p,
+        l,
+        first,
+        second,
+    } = told;
     match name {
-        b'w' => answer::outcome(tile::write(kind, p, l, lent, held)),
-        b'r' => answer::outcome(tile::read(kind, p, l, lent, held)),
-        b'm' => answer::repaired(tile::repair(kind, p, l, held)),
-        b'l' => answer::repaired(tile::inspect(kind, p, l, held)),
-        b't' => answer::repaired(tile::recover(kind, p, l, lent, held)),
-        b'f' => answer::outcome(tile::fill(kind, p, l, held, first, second)),
-        b'a' => answer::outcome(tile::judge(p, l, lent, held, first, second)),
-        b'c' => answer::corrected(sheet::correct(kind, p, l, held, lent)),
-        _ => look(name, kind, p, l, held),
+        b'w' => answer::outcome(rt, tile::write(kind, p, l, lent, held)),
+        b'r' => answer::outcome(rt, tile::read(kind, p, l, lent, held)),
+        b'm' => answer::repaired(rt, tile::repair(kind, p, l, held)),
+        b'l' => answer::repaired(rt, tile::inspect(kind, p, l, held)),
+        b't' => answer::repaired(rt, tile::recover(kind, p, l, lent, held)),
+        b'f' => answer::outcome(rt, tile::fill(kind, p, l, held, first, second)),
+        b'a' => answer::outcome(rt, tile::judge(p, l, lent, held, first, second)),
+        b'c' => answer::corrected(rt, sheet::correct(kind, p, l, held, lent)),
+        _ => look(rt, name, kind, p, l, held),
     }
 }

@@ -14,5 +14,5 @@ returns-then-a-first c =
 pub returns-else-a-first : goal.returns-else-a-first
 returns-else-a-first c =
     no_crossed
-    (crossed_no c.args.p c.args.l _ _ c.requires.slope c.args.t c.args.s (omega arith) (omega arith)
+    (crossed_no c.args.lattice.p c.args.lattice.l _ _ c.args.lattice.slope c.args.t c.args.s (omega arith) (omega arith)
     (λ e. c.if-a-first.false (ap (held c.args.a.now) c.through-first.ensures.0 ∙ e ∙ sym (ap (held c.args.b.now) c.through-second.ensures.0))))

@@ -1,5 +1,6 @@
 -- `judge::judge` meets its contract. Where the lengths are judged to be right the call is admitted; then the tiles have the lines; and then
 -- the restored one is good.
+use Rattle.std.proofs.lemmas.Result.{err_from_is_err_and}
 use Rattle.std.proofs.Common.{arith}
 use Rattle.code.specs.Tile.{Good}
 use Rattle.code.specs.Says.{says_true, says_false}
@@ -9,19 +10,21 @@ use Rattle.promise.specs.Calls.{Admitted, TwoLengths, Has, refuses, no_line, not
 use Rattle.promise.specs.Admit.{admitted_well, slope_of_lem}
 use Rattle.judge.proofs.judge.Goals as goal
 
-pub returns-in-Refused : goal.returns-in-Refused
-returns-in-Refused c = refuses (rw c.in-Refused.is at c.judge_lengths.ensures)
+pub returns-in_err-judge_lengths : goal.returns-in_err-judge_lengths
+returns-in_err-judge_lengths c =
+    let e = err_from_is_err_and c.from_residual.result c.from_residual.ensures.1 in
+    rw (e.1, e.2) (refuses c.in_err-judge_lengths.ensures)
 
 pub returns-then-not-has_both : goal.returns-then-not-has_both
 returns-then-not-has_both c =
     let a = c.args in
-    let lengths : Admitted New a.p a.l (TwoLengths a.p a.scan.now a.restored.now) size.well = rw c.in-Taken.is at c.judge_lengths.ensures in
+    let lengths : Admitted New a.p a.l (TwoLengths a.p a.scan.now a.restored.now) size.well = c.in_ok-judge_lengths.ensures in
     no_line lengths (says_false c.has_both.ensures c.if-not-has_both.true)
 
 pub is_good-requires : goal.is_good-requires
 is_good-requires c =
     let a = c.args in
-    let lengths : Admitted New a.p a.l (TwoLengths a.p a.scan.now a.restored.now) size.well = rw c.in-Taken.is at c.judge_lengths.ensures in
+    let lengths : Admitted New a.p a.l (TwoLengths a.p a.scan.now a.restored.now) size.well = c.in_ok-judge_lengths.ensures in
     let w = admitted_well lengths in
     let slope = slope_of_lem lengths in
     record { prime = w.0.prime; high = w.0.high; positive = omega (arith, slope.low); slope = omega (arith, slope.high); size = w.2.1 }
@@ -29,29 +32,29 @@ is_good-requires c =
 pub returns-then-not-is_good : goal.returns-then-not-is_good
 returns-then-not-is_good c =
     let a = c.args in
-    let lengths : Admitted New a.p a.l (TwoLengths a.p a.scan.now a.restored.now) size.well = rw c.in-Taken.is at c.judge_lengths.ensures in
+    let lengths : Admitted New a.p a.l (TwoLengths a.p a.scan.now a.restored.now) size.well = c.in_ok-judge_lengths.ensures in
     let lines : Has a.p a.first × Has a.p a.second = says_true c.has_both.ensures c.if-not-has_both.false in
     not_good lengths lines.0 lines.1 (says_false c.is_good.ensures c.if-not-is_good.true)
 
 pub agree_outside-requires : goal.agree_outside-requires
 agree_outside-requires c =
     let a = c.args in
-    let lengths : Admitted New a.p a.l (TwoLengths a.p a.scan.now a.restored.now) size.well = rw c.in-Taken.is at c.judge_lengths.ensures in
+    let lengths : Admitted New a.p a.l (TwoLengths a.p a.scan.now a.restored.now) size.well = c.in_ok-judge_lengths.ensures in
     let w = admitted_well lengths in
     record { low = omega (arith, w.0.low); high = w.0.high; size = w.2.0; size_other = w.2.1 }
 
 pub returns-then-not-agree_outside : goal.returns-then-not-agree_outside
 returns-then-not-agree_outside c =
     let a = c.args in
-    let lengths : Admitted New a.p a.l (TwoLengths a.p a.scan.now a.restored.now) size.well = rw c.in-Taken.is at c.judge_lengths.ensures in
+    let lengths : Admitted New a.p a.l (TwoLengths a.p a.scan.now a.restored.now) size.well = c.in_ok-judge_lengths.ensures in
     let lines : Has a.p a.first × Has a.p a.second = says_true c.has_both.ensures c.if-not-has_both.false in
     let good : Good a.p a.l a.restored.now = says_true c.is_good.ensures c.if-not-is_good.false in
     elsewhere lengths lines.0 lines.1 good (says_false c.agree_outside.ensures c.if-not-agree_outside.true)
 
-pub returns-else-not-agree_outside : goal.returns-else-not-agree_outside
-returns-else-not-agree_outside c =
+pub returns : goal.returns
+returns c =
     let a = c.args in
-    let lengths : Admitted New a.p a.l (TwoLengths a.p a.scan.now a.restored.now) size.well = rw c.in-Taken.is at c.judge_lengths.ensures in
+    let lengths : Admitted New a.p a.l (TwoLengths a.p a.scan.now a.restored.now) size.well = c.in_ok-judge_lengths.ensures in
     let lines : Has a.p a.first × Has a.p a.second = says_true c.has_both.ensures c.if-not-has_both.false in
     let good : Good a.p a.l a.restored.now = says_true c.is_good.ensures c.if-not-is_good.false in
     accepts lengths lines.0 lines.1 good (says_true c.agree_outside.ensures c.if-not-agree_outside.false)

@@ -1,5 +1,5 @@
 -- `listing::closing_line` meets its contract.
-use native.Mathlib.Omega.{arith}
+use Rattle.std.proofs.Common.{arith}
 use Rattle.reel.specs.Told.{refusal_stays}
 use Rattle.listing.specs.Reached.{reached_ends, reached_stops}
 use Rattle.listing.proofs.Other.{is_end}
@@ -7,12 +7,8 @@ use Rattle.listing.proofs.closing_line.Goals as goal
 
 pub returns-in_default : goal.returns-in_default
 returns-in_default c =
-    let args = c.args in
-    let told = rw (is_end args.found c.in_default.not-Refused c.requires.next_told.1) at c.requires.next_told.0 in
-    record {
-      closes = rw c.end_line.ensures.is (reached_ends c.requires.reached told);
-      length_in_bounds = c.end_line.ensures.within;
-    }
+    let told = rw (is_end c.args.found c.in_default.not-Refused c.requires.next_told.1) at c.requires.next_told.0 in
+    rw c.end_line.ensures (reached_ends c.requires.reached told)
 
 pub overflow_add-reel : goal.overflow_add-reel
 overflow_add-reel c =
@@ -20,7 +16,4 @@ overflow_add-reel c =
 
 pub returns : goal.returns
 returns c =
-    record {
-      closes = rw c.stopped_line.ensures.is (reached_stops c.requires.reached (rw c.in-Refused.is at c.requires.next_told.0));
-      length_in_bounds = c.stopped_line.ensures.within;
-    }
+    rw c.stopped_line.ensures (reached_stops c.requires.reached (rw c.in-Refused.is at c.requires.next_told.0))

@@ -1,18 +1,13 @@
--- `listing::print_with` is safe and ends. The loop's invariant: what is left of the reel, and how many tiles stand before it. The measure is the
--- length of what is left.
-use mathlib.Core.Path.{refl}
-use native.Mathlib.Omega.{arith}
-use Rattle.reel.proofs.Other.{no_tile}
+-- `listing::print_with` is safe and ends. The loop's invariant: what is left of the reel, and how many tiles stand before it. The measure
+-- is the length of what is left.
+use Rattle.std.proofs.Common.{refl, arith}
 use Rattle.listing.specs.Reached.{reached_first, reached_less, reached_more}
+use Rattle.listing.proofs.Other.{no_tile}
 use Rattle.listing.proofs.print_with.Goals as goal
 
 pub loop-tile-init : goal.loop-tile-init
 loop-tile-init c =
     (c.requires, refl, reached_first c.args.reel.now)
-
-pub next-found-requires : goal.next-found-requires
-next-found-requires c =
-    tt
 
 pub closing_line-requires : goal.closing_line-requires
 closing_line-requires c =
@@ -21,14 +16,6 @@ closing_line-requires c =
       next_told = (c.next-found.ensures, no_tile c.next-found.result c.in_default.not-Tile);
     }
 
-pub write-requires : goal.write-requires
-write-requires c =
-    c.closing_line.ensures.length_in_bounds
-
-pub returns-in_default : goal.returns-in_default
-returns-in_default c =
-    tt
-
 pub next_line-requires : goal.next_line-requires
 next_line-requires c =
     record {
@@ -36,22 +23,10 @@ next_line-requires c =
       in_bounds = c.loop-tile.invariant.0;
     }
 
-pub write-requires-in-loop-tile : goal.write-requires-in-loop-tile
-write-requires-in-loop-tile c =
-    c.next_line.ensures.length_in_bounds
-
-pub returns-then-not-write : goal.returns-then-not-write
-returns-then-not-write c =
-    tt
-
-pub rest-rest-requires : goal.rest-rest-requires
-rest-rest-requires c =
-    tt
-
 pub loop-tile-smaller : goal.loop-tile-smaller
 loop-tile-smaller c =
-    reached_less c.loop-tile.invariant.2 (rw c.in-Tile.is at c.next-found.ensures) c.rest-rest.ensures
+    reached_less c.loop-tile.invariant.2 (rw c.in-Tile.is at c.next-found.ensures) c.rest-left.ensures
 
 pub loop-tile-preserved : goal.loop-tile-preserved
 loop-tile-preserved c =
-    (omega arith, omega arith, reached_more c.loop-tile.invariant.2 (rw c.in-Tile.is at c.next-found.ensures) c.rest-rest.ensures)
+    (omega arith, omega arith, reached_more c.loop-tile.invariant.2 (rw c.in-Tile.is at c.next-found.ensures) c.rest-left.ensures)

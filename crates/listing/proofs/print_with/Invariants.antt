@@ -1,5 +1,5 @@
--- `listing::print_with` is safe and ends. The loop's invariant: what is left of the reel, and how many tiles stand before it. The measure is the
--- length of what is left.
+-- `listing::print_with` is safe and ends. The loop's invariant: what is left of the reel, and how many tiles stand before it. The measure
+-- is the length of what is left.
 use mathlib.Core.Path.{◌≡◌}
 use Prim.Native.Nat.{◌≤◌}
 use lib.ListN.{length}

@@ -1,38 +1,51 @@
 -- `mender::repair` meets its contract.
-use mathlib.Core.Path.{refl}
-use native.Mathlib.Omega.{arith}
+use Rattle.std.proofs.Common.{ap, ◌∙◌, arith, Ok}
+use Rattle.std.proofs.lemmas.Result.{err_from_is_err_and}
+use Rattle.cells.specs.Change.{added_changed}
 use Rattle.promise.specs.Calls.{refuses}
 use Rattle.promise.specs.Admit.{admitted_well, slope_of_lem}
-use Rattle.mender.specs.Mended.{line_in, repair_ends}
+use Rattle.mender.specs.Mended.{line_in, one_in, told_unclear, repair_ends}
 use Rattle.mender.proofs.repair.Goals as goal
+use Rattle.mender.proofs.repair.Goals.{in-Some, in_default}
 
-pub find-hurt-requires : goal.find-hurt-requires
-find-hurt-requires c =
-    let a = rw c.in-Taken.is at c.judge_tile.ensures in
-    let w = admitted_well a in
-    record {
-      slope = slope_of_lem a;
-      takes = w.1;
-      p_bound = (w.0.high, w.2, refl);
-    }
+pub returns-in_err-judge_tile : goal.returns-in_err-judge_tile
+returns-in_err-judge_tile c =
+    let e = err_from_is_err_and c.from_residual.result c.from_residual.ensures.1 in
+    rw (e.1, e.2) (refuses c.in_err-judge_tile.ensures)
 
-pub mend-requires : goal.mend-requires
-mend-requires c =
-    let a = rw c.in-Taken.is at c.judge_tile.ensures in
-    let w = admitted_well a in
-    (omega (arith, w.0.low), w.0.high, w.2, line_in c.find-hurt.ensures)
+pub invariant_of-find : goal.invariant_of-find
+invariant_of-find c =
+    let a = c.in_ok-judge_tile.ensures in record { slope = slope_of_lem a; high = (admitted_well a).0.high }
+
+pub find-requires : goal.find-requires
+find-requires c =
+    let w = admitted_well c.in_ok-judge_tile.ensures in record { takes = w.1; tile_len = w.2 }
+
+pub returns-in_err-hurt : goal.returns-in_err-hurt
+returns-in_err-hurt c =
+    let r = c.from_residual-in_err-hurt in
+    let e = err_from_is_err_and r.result r.ensures.1 in
+    rw (e.1, e.2) (repair_ends _ _ _ _ _ c.in_ok-judge_tile.ensures c.in_err-hurt.ensures (told_unclear _ _ _))
+
+pub add_line-requires : goal.add_line-requires
+add_line-requires c =
+    let w = admitted_well c.in_ok-judge_tile.ensures in
+    (omega (arith, w.0.low), w.0.high, w.2, one_in c.args.p (ap Ok c.in-Some.is) (line_in c.in_ok-hurt.ensures))
 
 pub say-requires : goal.say-requires
 say-requires c =
-    let a = rw c.in-Taken.is at c.judge_tile.ensures in
-    let w = admitted_well a in
+    let w = admitted_well c.in_ok-judge_tile.ensures in
     (omega (arith, w.0.low), w.0.high)
 
-pub returns-in-Refused : goal.returns-in-Refused
-returns-in-Refused c =
-    refuses (rw c.in-Refused.is at c.judge_tile.ensures)
-
-pub returns-in-Taken : goal.returns-in-Taken
-returns-in-Taken c =
-    let a = rw c.in-Taken.is at c.judge_tile.ensures in
-    rw c.mend.ensures (repair_ends _ _ _ _ _ a c.find-hurt.ensures c.say.ensures)
+pub returns : goal.returns
+returns c =
+    let a = c.in_ok-judge_tile.ensures in
+    let size = admitted_well a in
+    elim c.match-hurt.branch [
+      | in-Some w ↦
+          rw w.tile-is
+          (rw (added_changed c.args.p _ _ _ (omega (arith, size.0.low)) (w.add_line.ensures.tile_len_unchanged ∙ size.2) w.add_line.ensures.added)
+          (repair_ends _ _ _ _ _ a (rw w.in-Some.is at c.in_ok-hurt.ensures) (rw w.hurt-is at c.say.ensures)))
+      | in_default w ↦
+          rw w.tile-is (repair_ends _ _ _ _ _ a (rw w.in_default.is at c.in_ok-hurt.ensures) (rw (w.hurt-is, w.in_default.is) at c.say.ensures))
+    ]

@@ -1,20 +1,25 @@
--- `picture::stopped` meets its contract.
-use Rattle.page.specs.Then.{◌then◌}
+-- `picture::stopped` meets its contract: each form puts what it shows on an empty page.
+use Rattle.std.proofs.Common.{rules, arith}
+use Rattle.size.specs.Refusal.{number_of}
+use Rattle.page.specs.Page.{PutOn}
+use Rattle.page.specs.Then.{◌and◌, at_most}
+use Rattle.picture.specs.Laws.{line_put}
 use Rattle.picture.specs.Picture.{stopped_shown}
 use Rattle.picture.proofs.stopped.Goals as goal
+use Rattle.picture.proofs.stopped.Goals.{in-Lines, in-Squares, in-Signs}
 
-pub returns-in-Lines : goal.returns-in-Lines
+pub returns : goal.returns
 unfolding stopped_shown
-returns-in-Lines c =
-    rw (c.in-Lines.is, ← c.stopped_line.ensures.is) c.put_line.ensures.puts
-
-pub returns-in-Squares : goal.returns-in-Squares
-unfolding stopped_shown
-returns-in-Squares c =
-    rw c.in-Squares.is (c.stop-drawn.ensures.puts then c.foot.ensures)
-
-pub returns-in-Signs : goal.returns-in-Signs
-unfolding stopped_shown
-returns-in-Signs c =
-    rw c.in-Signs.is
-    (c.stop-rowed.ensures.puts then c.legend-told.ensures.puts then (rw c.stopped_line-in-Signs.ensures.is at c.put_line-in-Signs.ensures.puts))
+returns c =
+    let all : PutOn 4096 c.new-page.result (stopped_shown c.args.form c.args.tally (number_of c.args.no) c.args.offset) c.match-form.page =
+    elim c.match-form.branch [
+      | in-Lines w ↦
+          rw (w.in-Lines.is, w.page-is)
+          (at_most 4096 (omega arith) (line_put w.text.ensures.text w.text.ensures.upper_bound w.stopped_line.ensures w.put.ensures))
+      | in-Squares w ↦ rw (w.in-Squares.is, w.page-is) (at_most 4096 (omega arith) (w.stop.ensures and w.foot.ensures))
+      | in-Signs w ↦
+          let line = line_put w.text-in-Signs.ensures.text w.text-in-Signs.ensures.upper_bound w.stopped_line-in-Signs.ensures w.put-in-Signs.ensures in
+          rw (w.in-Signs.is, w.page-is) (at_most 4096 (omega arith) (w.stop-in-Signs.ensures and w.legend.ensures and line))
+    ]
+    in
+    search (rules, all)

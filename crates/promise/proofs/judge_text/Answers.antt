@@ -1,35 +1,23 @@
 -- `promise::judge_text` meets its contract.
-use Prim.Native.Nat.{◌-◌, ◌≤◌}
-use native.Mathlib.Nat.{mul-le-mul}
-use native.Mathlib.Omega.{arith}
+use Rattle.std.proofs.Common.{sym, ◌∙◌}
+use Rattle.std.proofs.lemmas.Result.{err_from_is_err_and}
 use Rattle.promise.specs.Calls.{no_length, admitted}
 use Rattle.promise.specs.Admit.{admitted_well, admitted_judged, admitted_more}
 use Rattle.promise.proofs.judge_text.Goals as goal
 
-pub overflow_sub-p : goal.overflow_sub-p
-overflow_sub-p c =
-    let size = (admitted_well (rw c.in-Taken.is at c.judge_tile.ensures)).0 in omega (arith, size.low)
+pub returns-in_err-judge_tile : goal.returns-in_err-judge_tile
+returns-in_err-judge_tile c =
+    let e = err_from_is_err_and c.from_residual.result c.from_residual.ensures.1 in
+    rw (e.1, e.2) (admitted_more (λ h. h.0) c.in_err-judge_tile.ensures)
 
-pub overflow_sub-p-in-Taken : goal.overflow_sub-p-in-Taken
-overflow_sub-p-in-Taken c =
-    let size = (admitted_well (rw c.in-Taken.is at c.judge_tile.ensures)).0 in omega (arith, size.low)
+pub text_length-requires : goal.text_length-requires
+text_length-requires c = (admitted_well c.in_ok-judge_tile.ensures).0
 
-pub overflow_mul-p : goal.overflow_mul-p
-overflow_mul-p c =
-    let size = (admitted_well (rw c.in-Taken.is at c.judge_tile.ensures)).0 in
-    let rows : c.args.p - 1 ≤ 256 = omega (arith, size.high) in
-    let columns : c.args.p - 3 ≤ 256 = omega (arith, size.high) in
-    omega (arith, mul-le-mul rows columns)
+pub returns-then-letters-text_length : goal.returns-then-letters-text_length
+returns-then-letters-text_length c =
+    let tile = c.in_ok-judge_tile.ensures in
+    admitted (admitted_judged tile) ((admitted_well tile).2, c.if-letters-text_length.true ∙ c.text_length.ensures)
 
-pub returns-in-Refused : goal.returns-in-Refused
-returns-in-Refused c =
-    admitted_more (λ h. h.0) (rw c.in-Refused.is at c.judge_tile.ensures)
-
-pub returns-then-letters-p : goal.returns-then-letters-p
-returns-then-letters-p c =
-    let tile = rw c.in-Taken.is at c.judge_tile.ensures in
-    admitted (admitted_judged tile) ((admitted_well tile).2, c.if-letters-p.true)
-
-pub returns-else-letters-p : goal.returns-else-letters-p
-returns-else-letters-p c =
-    no_length (admitted_judged (rw c.in-Taken.is at c.judge_tile.ensures)) (λ h. c.if-letters-p.false h.1)
+pub returns-else-letters-text_length : goal.returns-else-letters-text_length
+returns-else-letters-text_length c =
+    no_length (admitted_judged c.in_ok-judge_tile.ensures) (λ h. c.if-letters-text_length.false (h.1 ∙ sym c.text_length.ensures))

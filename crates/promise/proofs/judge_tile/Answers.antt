@@ -1,33 +1,16 @@
 -- `promise::judge_tile` meets its contract.
-use Prim.Native.Nat.{◌-◌, ◌≤◌}
-use native.Mathlib.Nat.{mul-le-mul}
-use native.Mathlib.Omega.{arith}
-use Rattle.size.specs.Told.{judged_well}
+use Rattle.std.proofs.Common.{sym, ◌∙◌}
+use Rattle.std.proofs.lemmas.Result.{err_from_is_err_and}
 use Rattle.promise.specs.Calls.{judged, no_length, admitted}
 use Rattle.promise.proofs.judge_tile.Goals as goal
 
-pub overflow_sub-p : goal.overflow_sub-p
-overflow_sub-p c =
-    let size = (judged_well (rw c.in-Taken.is at c.judge.ensures)).0 in omega (arith, size.low)
+pub returns-in_err-judge : goal.returns-in_err-judge
+returns-in_err-judge c =
+    let e = err_from_is_err_and c.from_residual.result c.from_residual.ensures.1 in
+    rw (e.1, e.2) (judged c.in_err-judge.ensures)
 
-pub overflow_sub-p-in-Taken : goal.overflow_sub-p-in-Taken
-overflow_sub-p-in-Taken c =
-    let size = (judged_well (rw c.in-Taken.is at c.judge.ensures)).0 in omega (arith, size.low)
+pub returns-then-cells-tile_length : goal.returns-then-cells-tile_length
+returns-then-cells-tile_length c = admitted c.in_ok-judge.ensures (c.if-cells-tile_length.true ∙ c.tile_length.ensures)
 
-pub overflow_mul-p : goal.overflow_mul-p
-overflow_mul-p c =
-    let size = (judged_well (rw c.in-Taken.is at c.judge.ensures)).0 in
-    let side : c.args.p - 1 ≤ 256 = omega (arith, size.high) in
-    omega (arith, mul-le-mul side side)
-
-pub returns-in-Refused : goal.returns-in-Refused
-returns-in-Refused c =
-    judged (rw c.in-Refused.is at c.judge.ensures)
-
-pub returns-then-cells-p : goal.returns-then-cells-p
-returns-then-cells-p c =
-    admitted (rw c.in-Taken.is at c.judge.ensures) c.if-cells-p.true
-
-pub returns-else-cells-p : goal.returns-else-cells-p
-returns-else-cells-p c =
-    no_length (rw c.in-Taken.is at c.judge.ensures) c.if-cells-p.false
+pub returns-else-cells-tile_length : goal.returns-else-cells-tile_length
+returns-else-cells-tile_length c = no_length c.in_ok-judge.ensures (λ h. c.if-cells-tile_length.false (h ∙ sym c.tile_length.ensures))

@@ -1,50 +1,39 @@
 -- `show::along` meets its contract.
-use native.Mathlib.Omega.{arith}
-use mathlib.Core.Path.{ap}
-use Rattle.show.specs.declared.Walk.{Walk}
-use borrow.Author.Rules.{rules}
+use Rattle.std.proofs.Common.{rules, arith, ap}
 use Rattle.reel.specs.Walks.{moves_on}
 use Rattle.window.specs.Going.{looked_tile}
 use Rattle.show.specs.Show.{full, over}
-use Rattle.show.specs.Going.{going_first, going_few, going_on, along_told}
+use Rattle.show.specs.Going.{going_few, going_on, along_told}
+use Rattle.show.specs.declared.Walk.{Walk}
 use Rattle.show.proofs.along.Goals as goal
 
-pub loop-page-init : goal.loop-page-init
-loop-page-init c =
-    (going_first _ _ _ _ _ _ _ c.requires, search rules)
-
-pub returns-then-page-used-lt-MOST : goal.returns-then-page-used-lt-MOST
-returns-then-page-used-lt-MOST c =
-    along_told c.loop-page.invariant.0 (full (omega (arith, c.if-page-used-lt-MOST.true, c.loop-page.invariant.0.shown.same)))
-
-pub past-walk-requires : goal.past-walk-requires
-past-walk-requires c =
-    let told = looked_tile (rw c.in-Tile.is at c.look.ensures) in
-    record {
-      next_told = told;
-      used_in_bounds = omega (arith, c.if-page-used-lt-MOST.false);
-      below = going_few c.loop-page.invariant.0 told (omega (arith, c.loop-page.invariant.1, c.well_formed.1.0.0));
-      offset_bound = c.requires.far;
-    }
+pub past-walk-requires-clause-below : goal.past-walk-requires-clause-below
+past-walk-requires-clause-below c =
+    let kept = c.loop-page.invariant in
+    going_few kept.going (looked_tile c.in-Ok.ensures) (omega (arith, kept.long, c.well_formed.1.0.0))
 
 pub loop-page-smaller : goal.loop-page-smaller
 loop-page-smaller c =
-    let told = looked_tile (rw c.in-Tile.is at c.look.ensures) in
-    omega (arith, moves_on told, ap (λ (x : Walk). x.place) c.past-walk.ensures.is, c.loop-page.invariant.1)
+    omega (arith, moves_on (looked_tile c.in-Ok.ensures), ap (λ (x : Walk). x.place) c.past-walk.ensures.past.is, c.loop-page.invariant.long)
 
 pub loop-page-preserved : goal.loop-page-preserved
 loop-page-preserved c =
-    let told = looked_tile (rw c.in-Tile.is at c.look.ensures) in
-    (going_on c.loop-page.invariant.0 (omega (arith, c.if-page-used-lt-MOST.false)) told c.past-walk.ensures, search rules)
+    let kept = c.loop-page.invariant in
+    record {
+      going = going_on kept.going (omega (arith, c.loop-page-test.true, c.left.ensures, kept.used)) (looked_tile c.in-Ok.ensures) c.past-walk.ensures.past;
+      used = c.past-walk.ensures.used;
+      same = search rules;
+      long = search rules;
+    }
 
-pub returns-in-More : goal.returns-in-More
-returns-in-More c =
-    along_told c.loop-page.invariant.0 (over (omega (arith, c.if-page-used-lt-MOST.false, c.loop-page.invariant.0.shown.same)) (rw c.in-More.is at c.look.ensures) tt)
+pub returns-in-Err : goal.returns-in-Err
+returns-in-Err c =
+    let kept = c.loop-page.invariant in
+    let all = along_told kept.going (over (omega (arith, c.loop-page-test.true, c.left.ensures, kept.used, kept.going.shown.same)) c.in-Err.ensures) in
+    search (rules, all)
 
-pub returns-in-End : goal.returns-in-End
-returns-in-End c =
-    along_told c.loop-page.invariant.0 (over (omega (arith, c.if-page-used-lt-MOST.false, c.loop-page.invariant.0.shown.same)) (rw c.in-End.is at c.look.ensures) tt)
-
-pub returns-in-Stopped : goal.returns-in-Stopped
-returns-in-Stopped c =
-    along_told c.loop-page.invariant.0 (over (omega (arith, c.if-page-used-lt-MOST.false, c.loop-page.invariant.0.shown.same)) (rw c.in-Stopped.is at c.look.ensures) tt)
+pub returns : goal.returns
+returns c =
+    let kept = c.loop-page.invariant in
+    let all = along_told kept.going (full (omega (arith, c.loop-page-test.false, c.left.ensures, kept.used, kept.going.shown.same))) in
+    search (rules, all)

@@ -1,5 +1,5 @@
 -- `show::past` meets its contract.
-use native.Mathlib.Omega.{arith}
+use Rattle.std.proofs.Common.{arith}
 use Rattle.reel.specs.Told.{tile_taken, tile_within}
 use Rattle.reel.specs.Walks.{moves_on}
 use Rattle.window.specs.Going.{within}
@@ -18,9 +18,11 @@ pub behind-requires : goal.behind-requires
 behind-requires c =
     record {
       size = (tile_taken c.requires.next_told).0;
-      p_bound = omega (arith, tile_within c.requires.next_told, c.well_formed.1.0.0);
+      bound = omega (arith, tile_within c.requires.next_told, c.well_formed.1.0.0);
     }
 
-pub returns : goal.returns
-returns c =
-    past_told _ _ _ c.restore-state.ensures c.tile-next.ensures.puts c.tile-next.ensures.upper_bound c.behind.ensures c.with.ensures
+pub returns-clause-past : goal.returns-clause-past
+returns-clause-past c =
+    let put = rw c.requires.used at c.tile.ensures.puts in
+    rw c.used.ensures
+    (past_told _ _ _ c.restore-state.ensures put (omega (arith, c.tile.ensures.within, c.requires.used)) c.behind.ensures c.with.ensures)

@@ -21,30 +21,30 @@ returns-then-not-between c =
 pub loop-i-init : goal.loop-i-init
 loop-i-init c =
     let slope = says_true {b = c.between.result} c.between.ensures c.if-not-between.false in
-    (slope.0, slope.1, omega arith, omega arith, first_power _ _ (omega arith), λ k h i e. omega arith)
+    (slope.0, slope.1, first_power _ _ (omega arith), λ k h i e. omega arith)
 
 pub returns-then-power-eq1 : goal.returns-then-power-eq1
 returns-then-power-eq1 c =
     λ s a.
     let at = c.loop-i in
-    reaches_no_return _ _ s.prime a.reach at.i (omega arith) (omega arith) (sym at.invariant.4 ∙ c.if-power-eq1.true)
+    reaches_no_return _ _ s.prime a.reach at._i (omega arith) (omega arith) (sym at.invariant.2 ∙ c.if-power-eq1.true)
 
 pub overflow_mul-power : goal.overflow_mul-power
 overflow_mul-power c =
     let a = c.args in
-    let power : c.loop-i.power ≤ 257 = omega (arith, mod-lt (a.l ^ c.loop-i.i) {m = a.p} (omega arith)) in
+    let power : c.loop-i.power ≤ 257 = omega (arith, mod-lt (a.l ^ c.loop-i._i) {m = a.p} (omega arith)) in
     let slope : a.l ≤ 257 = omega arith in
     omega (arith, mul-le-mul power slope)
 
 pub loop-i-preserved : goal.loop-i-preserved
 loop-i-preserved c =
     let inv = c.loop-i.invariant in
-    (inv.0, inv.1, omega arith, omega arith, next_power _ _ _ _ inv.4, below_more _ _ inv.5 (λ h e. c.if-power-eq1.false (inv.4 ∙ e)))
+    (inv.0, inv.1, next_power _ _ _ _ inv.2, below_more _ _ inv.3 (λ h e. c.if-power-eq1.false (inv.2 ∙ e)))
 
 pub returns : goal.returns
 returns c =
     λ s. record {
       low = omega arith;
       high = omega arith;
-      reach = no_return_reaches _ _ s.prime (below_pos _ _ (omega arith) (omega arith)) (λ k h lt. c.loop-i.invariant.5 k (omega arith) h);
+      reach = no_return_reaches _ _ s.prime (below_pos _ _ (omega arith) (omega arith)) (λ k h lt. c.loop-i.invariant.3 k (omega arith) h);
     }

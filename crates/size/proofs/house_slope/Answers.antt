@@ -1,11 +1,6 @@
--- `size::house_slope` meets its contract: `house::slope` tells the house slope, or 0, which is no slope of a size.
-use Rattle.size.specs.Told.{told_none, told_some}
+-- `size::house_slope` meets its contract: `house::slope` tells the house slope, or nothing where p is no size.
+use Rattle.size.specs.Told.{told}
 use Rattle.size.proofs.house_slope.Goals as goal
 
-pub returns-then-slope-eq0 : goal.returns-then-slope-eq0
-returns-then-slope-eq0 c =
-    told_none c.slope-slope.ensures c.if-slope-eq0.true
-
 pub returns : goal.returns
-returns c =
-    told_some c.slope-slope.ensures c.if-slope-eq0.false
+returns c = rw c.ok_or.ensures.value (told _ c.slope.ensures)

@@ -1,6 +1,5 @@
 -- `window::seek` meets its contract: each tile that it passes shortens what is left.
-use lib.ListN.{length}
-use Prim.Native.Nat.{◌-◌}
+use Rattle.std.proofs.Common.{◌-◌, length}
 use Rattle.window.specs.Going.{Seeking}
 use Rattle.window.proofs.seek.Given as goal
 

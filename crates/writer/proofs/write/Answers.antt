@@ -1,6 +1,7 @@
 -- `writer::write` meets its contract.
-use mathlib.Core.Path.{refl, ◌∙◌}
+use mathlib.Core.Path.{◌∙◌}
 use native.Mathlib.Omega.{arith}
+use Rattle.std.proofs.lemmas.Result.{err_from_is_err_and}
 use Rattle.code.specs.Held.{held}
 use Rattle.chain.specs.Cases.{held_totals}
 use Rattle.promise.specs.Calls.{refuses}
@@ -10,12 +11,12 @@ use Rattle.writer.proofs.write.Goals as goal
 
 pub lay-requires : goal.lay-requires
 lay-requires c =
-    let w = admitted_well (rw c.in-Taken.is at c.judge_text.ensures) in
+    let w = admitted_well c.in_ok-judge_text.ensures in
     record { low = omega (arith, w.0.low); high = w.0.high; tile = w.2.0; text = w.2.1 }
 
 pub both_sums-requires : goal.both_sums-requires
 both_sums-requires c =
-    let a = rw c.in-Taken.is at c.judge_text.ensures in
+    let a = c.in_ok-judge_text.ensures in
     let w = admitted_well a in
     let slope = slope_of_lem a in
     record {
@@ -26,27 +27,28 @@ both_sums-requires c =
         slope = omega (arith, slope.high);
         size = c.lay.ensures.size ∙ w.2.0;
       };
-      a_len = (refl, refl);
     }
+
+pub invariant_of-settle : goal.invariant_of-settle
+invariant_of-settle c =
+    let a = c.in_ok-judge_text.ensures in record { slope = slope_of_lem a; high = (admitted_well a).0.high }
 
 pub settle-requires : goal.settle-requires
 settle-requires c =
-    let a = rw c.in-Taken.is at c.judge_text.ensures in
-    let w = admitted_well a in
     record {
-      slope = slope_of_lem a;
-      p_bound = (w.0.high, c.lay.ensures.size ∙ w.2.0);
+      tile_len = c.lay.ensures.size ∙ (admitted_well c.in_ok-judge_text.ensures).2.0;
       a_value = held_totals c.args.p c.args.l _ c.both_sums.new.a c.both_sums.new.b
           c.both_sums.ensures.sums c.both_sums.ensures.sums_2;
     }
 
-pub returns-in-Refused : goal.returns-in-Refused
-returns-in-Refused c =
-    refuses (rw c.in-Refused.is at c.judge_text.ensures)
+pub returns-in_err-judge_text : goal.returns-in_err-judge_text
+returns-in_err-judge_text c =
+    let e = err_from_is_err_and c.from_residual.result c.from_residual.ensures.1 in
+    rw (e.1, e.2) (refuses c.in_err-judge_text.ensures)
 
-pub returns-in-Taken : goal.returns-in-Taken
-returns-in-Taken c =
+pub returns : goal.returns
+returns c =
     ends_written c.args.kind c.args.p c.args.l (held c.both_sums.new.a) (held c.both_sums.new.b)
     c.args.text.now c.args.tile.now _ _
-    (rw c.in-Taken.is at c.judge_text.ensures)
+    c.in_ok-judge_text.ensures
     c.lay.ensures c.both_sums.ensures.sums c.both_sums.ensures.sums_2 c.settle.ensures

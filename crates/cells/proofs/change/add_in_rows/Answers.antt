@@ -1,30 +1,16 @@
 -- `cells::change::add_in_rows` meets its contract: the bytes of a row or of a column are a run.
 use mathlib.Core.Path.{◌≡◌}
-use Prim.Native.Nat.{ℕ, ◌-◌, ◌<◌}
+use Prim.Native.Nat.{ℕ, ◌<◌}
 use native.Mathlib.Omega.{arith}
 use Rattle.code.specs.OneLine.{number}
 use Rattle.code.specs.declared.Line.{Line}
 use Rattle.code.specs.declared.Line.TheVariants.{Row, Column}
-use Rattle.cells.specs.Change.{line_in, rows_small, line_added, column_none}
+use Rattle.cells.specs.Change.{line_added, column_none}
 use Rattle.cells.proofs.change.add_in_rows.Goals as goal
 
 -- the row that the line is has its number
 row_among : {a : Line} {r n : ℕ} → a ≡ Row r → number a < n → r < n
 row_among e h = rw e at h
-
-pub overflow_mul-r : goal.overflow_mul-r
-overflow_mul-r c =
-    let r = row_among c.in-Row.is c.requires.3 in
-    omega (arith, rows_small c.args.rows c.args.width c.requires.1 c.requires.2, line_in c.args.rows c.args.width (Row _) 0 r c.requires.0)
-
-pub add_run-requires : goal.add_run-requires
-add_run-requires c =
-    let r = row_among c.in-Row.is c.requires.3 in
-    omega (arith, rows_small c.args.rows c.args.width c.requires.1 c.requires.2, line_in c.args.rows c.args.width (Row _) (c.args.width - 1) r (omega arith))
-
-pub add_run-requires-then-c-width : goal.add_run-requires-then-c-width
-add_run-requires-then-c-width c =
-    omega (arith, rows_small c.args.rows c.args.width c.requires.1 c.requires.2, line_in c.args.rows c.args.width (Column _) (c.args.rows - 1) c.if-c-width.true (omega arith))
 
 pub returns-in-Row : goal.returns-in-Row
 returns-in-Row c =

@@ -1,10 +1,7 @@
 -- `cells::text::lay` meets its contract. The loop's invariant: the first i rows are copied.
-use Prim.Native.Nat.{◌-◌, ◌≤◌}
+use Prim.Native.Nat.{◌-◌}
 use Rattle.cells.specs.Text.{RowsCopied}
 use Rattle.cells.proofs.text.lay.Given as goal
 
 abbrev pub invariant-loop-i : goal.invariant-loop-i
-invariant-loop-i l = (l.i ≤ l.p - 1) × RowsCopied l.i (l.p - 3) l.text (l.p - 3) l.initial.tile (l.p - 1) l.tile
-
-abbrev pub decreases-loop-i : goal.decreases-loop-i
-decreases-loop-i l = l.p - 1 - l.i
+invariant-loop-i l = RowsCopied l.i (l.p - 3) l.text (l.p - 3) l.initial.tile (l.p - 1) l.tile

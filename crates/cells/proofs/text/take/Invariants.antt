@@ -1,12 +1,7 @@
--- `cells::text::take` meets its contract. The loop's invariant: some rows are taken, and `start` and `begin` are where the next one is and goes.
---
+-- `cells::text::take` meets its contract. The loop's invariant: the first i rows are copied.
 use Prim.Native.Nat.{◌-◌}
-use lib.ListN.{length}
-use Rattle.cells.specs.Text.{Taken}
+use Rattle.cells.specs.Text.{RowsCopied}
 use Rattle.cells.proofs.text.take.Given as goal
 
-abbrev pub invariant-loop-begin : goal.invariant-loop-begin
-invariant-loop-begin l = Taken l.p l.tile l.initial.text l.text l.start l.begin
-
-abbrev pub decreases-loop-begin : goal.decreases-loop-begin
-decreases-loop-begin l = length l.text - l.begin
+abbrev pub invariant-loop-i : goal.invariant-loop-i
+invariant-loop-i l = RowsCopied l.i (l.p - 3) l.tile (l.p - 1) l.initial.text (l.p - 3) l.text

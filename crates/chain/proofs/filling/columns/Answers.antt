@@ -2,20 +2,19 @@
 use mathlib.Core.Path.{sym}
 use mathlib.Core.Logic.{inl}
 use native.Mathlib.Omega.{arith}
+use Rattle.chain.specs.Solve.{one}
 use Rattle.chain.specs.Cases.{columns_close}
 use Rattle.chain.proofs.filling.columns.Goals as goal
 
-pub paired-requires : goal.paired-requires
-paired-requires c =
-    record {
-      slope = c.requires.slope;
-      p_bound = (omega arith, omega arith, omega arith);
-      sure = inl tt;
-      closes = columns_close c.args.p c.args.l _ _ c.requires.slope c.args.u c.args.v
-          (omega arith) (omega arith) c.if-u-v.false c.requires.p_bound.3;
-      x_len = c.requires.x_len;
-    }
+pub paired-requires-clause-closes : goal.paired-requires-clause-closes
+paired-requires-clause-closes c =
+    let sums = c.args.sums.now in
+    columns_close sums.lattice.p sums.lattice.l _ _ sums.lattice.slope c.args.u c.args.v (omega arith) (omega arith) c.if-u-v.false sums.one_total
 
 pub returns-then-u-v : goal.returns-then-u-v
 returns-then-u-v c =
     rw (sym c.if-u-v.true) c.one_column.ensures
+
+pub returns-else-u-v : goal.returns-else-u-v
+returns-else-u-v c =
+    one (inl tt) c.paired.ensures

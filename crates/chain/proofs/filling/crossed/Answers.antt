@@ -1,25 +1,22 @@
 -- `chain::filling::crossed` meets its contract.
 use mathlib.Core.Logic.{inr}
 use native.Mathlib.Omega.{arith}
-use Rattle.chain.specs.Cases.{crossed_close, none_solved, several_solved, one_reaches}
+use Rattle.std.proofs.lemmas.Result.{err_from_is_err_and}
+use Rattle.chain.specs.Solve.{one}
+use Rattle.chain.specs.Cases.{crossed_close, not_one, one_reaches}
 use Rattle.chain.proofs.filling.crossed.Goals as goal
 
-pub paired-requires : goal.paired-requires
-paired-requires c =
-    let one = one_reaches (rw c.in-One.is at c.crossed_fillings.ensures) in
-    record {
-      slope = c.requires.slope;
-      p_bound = (omega arith, omega arith, omega arith);
-      sure = inr one.0;
-      closes = crossed_close c.args.p c.args.l _ _ c.requires.slope c.args.t c.args.s
-          one.0 (omega arith) (omega arith) c.requires.p_bound.3 one.1;
-      x_len = c.requires.x_len;
-    }
+pub paired-requires-clause-closes : goal.paired-requires-clause-closes
+paired-requires-clause-closes c =
+    let one = one_reaches c.in_ok-crossed_fillings.ensures in
+    let sums = c.args.sums.now in
+    crossed_close sums.lattice.p sums.lattice.l _ _ sums.lattice.slope c.args.t c.args.s one.0 (omega arith) (omega arith) sums.one_total one.1
 
-pub returns-in-None : goal.returns-in-None
-returns-in-None c =
-    none_solved (rw c.in-None.is at c.crossed_fillings.ensures)
+pub returns : goal.returns
+returns c =
+    one (inr (one_reaches c.in_ok-crossed_fillings.ensures).0) c.paired.ensures
 
-pub returns-in-Several : goal.returns-in-Several
-returns-in-Several c =
-    several_solved (rw c.in-Several.is at c.crossed_fillings.ensures)
+pub returns-in_err-crossed_fillings : goal.returns-in_err-crossed_fillings
+returns-in_err-crossed_fillings c =
+    let e = err_from_is_err_and c.from_residual.result c.from_residual.ensures.1 in
+    rw (e.1, e.2) (not_one c.in_err-crossed_fillings.ensures)

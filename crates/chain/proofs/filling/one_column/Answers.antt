@@ -13,16 +13,16 @@ use Rattle.chain.proofs.filling.one_column.Goals as goal
 
 pub returns-then-not-agree : goal.returns-then-not-agree
 returns-then-not-agree c =
-    let a = c.args in
-    none (one_no a.p a.l (held a.a.now) (held a.b.now) c.requires.slope a.c (omega arith)
-    (says_false {A = Agree a.p a.l (held a.a.now) (held a.b.now) (Column a.c)}
-    c.agree.ensures c.if-not-agree.true))
+    let sums = c.args.sums.now in
+    let column = c.args.c in
+    none (one_no sums.lattice.p sums.lattice.l (held sums.a.now) (held sums.b.now) sums.lattice.slope column (omega arith)
+    (says_false {A = Agree sums.lattice.p sums.lattice.l (held sums.a.now) (held sums.b.now) (Column column)} c.agree.ensures c.if-not-agree.true))
 
 pub returns : goal.returns
 returns c =
-    let a = c.args in
-    one (inl tt) (one_yes a.p a.l (held a.a.now) (held a.b.now) c.requires.slope a.c
+    let sums = c.args.sums.now in
+    let column = c.args.c in
+    one (inl tt) (one_yes sums.lattice.p sums.lattice.l (held sums.a.now) (held sums.b.now) sums.lattice.slope column
     (held c.shifted.new.change) (held (replicate 257 0)) (omega arith)
-    (says_true {A = Agree a.p a.l (held a.a.now) (held a.b.now) (Column a.c)}
-    c.agree.ensures c.if-not-agree.false)
-    (changed_line a.p (held a.a.now) (Column a.c) _ c.shifted.ensures) (zeros_held 257))
+    (says_true {A = Agree sums.lattice.p sums.lattice.l (held sums.a.now) (held sums.b.now) (Column column)} c.agree.ensures c.if-not-agree.false)
+    (changed_line sums.lattice.p (held sums.a.now) (Column column) _ c.shifted.ensures) (zeros_held 257))

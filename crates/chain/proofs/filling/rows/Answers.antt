@@ -1,27 +1,20 @@
 -- `chain::filling::rows` meets its contract: rows are columns of the turned tile.
-use native.Mathlib.Omega.{arith}
 use Rattle.code.specs.Slope.{inverse_slope}
 use Rattle.code.specs.Held.{held}
 use Rattle.chain.specs.Cases.{held_turned, solved_rows}
 use Rattle.chain.proofs.filling.rows.Goals as goal
 
-pub columns-requires : goal.columns-requires
-columns-requires c =
-    record {
-      slope = inverse_slope _ _ _ c.requires.slope c.inverse.ensures.1 c.inverse.ensures.0;
-      p_bound = (
-        omega arith,
-        omega arith,
-        omega arith,
-        held_turned c.args.p c.args.l _ (held c.args.b.now) (held c.along.new.out)
-            c.requires.slope c.along.ensures.stepping c.requires.p_bound.3,
-      );
-      x_len = (c.along.ensures.out_len, c.requires.x_len.1);
-    }
+pub invariant_of-lattice-clause-slope : goal.invariant_of-lattice-clause-slope
+invariant_of-lattice-clause-slope c =
+    inverse_slope _ _ _ c.args.sums.now.lattice.slope c.inverse.ensures.1 c.inverse.ensures.0
+
+pub invariant_of-sums : goal.invariant_of-sums
+invariant_of-sums c =
+    let sums = c.args.sums.now in
+    record { one_total = held_turned sums.lattice.p sums.lattice.l _ (held sums.b.now) (held c.along.new.out) sums.lattice.slope c.along.ensures sums.one_total }
 
 pub returns : goal.returns
 returns c =
-    solved_rows c.args.p c.args.l c.inverse.result c.args.r c.args.s
-    (held c.args.a.now) (held c.args.b.now) (held c.along.new.out)
-    (held c.columns.new.x) (held c.columns.new.y)
-    c.inverse.ensures.0 c.along.ensures.stepping c.columns.ensures
+    let sums = c.args.sums.now in
+    solved_rows sums.lattice.p sums.lattice.l c.inverse.result c.args.r c.args.s (held sums.a.now) (held sums.b.now) (held c.along.new.out)
+    (held c.columns.new.x) (held c.columns.new.y) c.inverse.ensures.0 c.along.ensures c.columns.ensures

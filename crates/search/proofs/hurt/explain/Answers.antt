@@ -1,9 +1,7 @@
 -- `search::hurt::explain` meets its contract.
-use native.Mathlib.Nat.{mod-lt}
 use native.Mathlib.Omega.{arith}
 use Rattle.code.specs.Tile.{cell}
 use Rattle.code.specs.Held.{held}
-use Rattle.walk.specs.Bound.{product}
 use Rattle.search.specs.Hurt.{explained_doubtful, explained_column, explained_row, explained_more}
 use Rattle.search.proofs.hurt.explain.Goals as goal
 
@@ -11,33 +9,25 @@ pub returns-then-also_a_row : goal.returns-then-also_a_row
 returns-then-also_a_row c =
     let a = c.args in
     explained_doubtful a.kind a.p a.m a.begin (cell a.p a.tile.now) (held a.sums.now) (omega arith) (omega arith) (omega arith) c.requires.sums
-    c.requires.begin_nonzero _ c.explaining-c.result (omega arith) (c.explaining-c.ensures.agrees (omega arith)) c.shifted.ensures
+    c.requires.begin_nonzero _ c.in-Some.c c.in-Some.ensures.0 c.in-Some.ensures.1 c.shifted.ensures
     (rw c.if-also_a_row.true at c.also_a_row.ensures)
 
-pub returns-then-c-p : goal.returns-then-c-p
-returns-then-c-p c =
+pub returns-in-Some : goal.returns-in-Some
+returns-in-Some c =
     let a = c.args in
     explained_column a.kind a.p a.m a.begin (cell a.p a.tile.now) (held a.sums.now) (omega arith) (omega arith) (omega arith) c.requires.sums
-    c.requires.begin_nonzero _ c.explaining-c.result (omega arith) (c.explaining-c.ensures.agrees (omega arith)) c.shifted.ensures
+    c.requires.begin_nonzero _ c.in-Some.c c.in-Some.ensures.0 c.in-Some.ensures.1 c.shifted.ensures
     (rw c.if-also_a_row.false at c.also_a_row.ensures)
 
-pub overflow_mul-m : goal.overflow_mul-m
-overflow_mul-m c =
-    let a = c.args in omega (arith, product a.m c.explaining-r.result (omega arith) (omega arith))
-
-pub shifted-requires-then-r-p : goal.shifted-requires-then-r-p
-shifted-requires-then-r-p c =
-    (mod-lt _ (omega arith), omega arith, omega arith, omega arith)
-
-pub returns-then-r-p : goal.returns-then-r-p
-returns-then-r-p c =
+pub returns-in_default-explaining : goal.returns-in_default-explaining
+returns-in_default-explaining c =
     let a = c.args in
-    explained_row a.kind a.p a.m a.begin (cell a.p a.tile.now) (held a.sums.now) (omega arith) (omega arith) (omega arith) c.requires.sums
-    c.requires.begin_nonzero (c.explaining-c.ensures.none c.if-c-p.false) _ c.explaining-r.result (omega arith)
-    (c.explaining-r.ensures.agrees (omega arith)) c.shifted-then-r-p.ensures
+    explained_more a.kind a.p a.m a.begin (cell a.p a.tile.now) (held a.sums.now) (omega arith) (omega arith) (omega arith) c.requires.sums
+    c.requires.begin_nonzero c.in_default.ensures _ c.in_default-explaining.ensures
 
 pub returns : goal.returns
 returns c =
     let a = c.args in
-    explained_more a.kind a.p a.m a.begin (cell a.p a.tile.now) (held a.sums.now) (omega arith) (omega arith) (omega arith) c.requires.sums
-    c.requires.begin_nonzero (c.explaining-c.ensures.none c.if-c-p.false) _ (c.explaining-r.ensures.none c.if-r-p.false)
+    let row = c.in-Some-explaining in
+    explained_row a.kind a.p a.m a.begin (cell a.p a.tile.now) (held a.sums.now) (omega arith) (omega arith) (omega arith) c.requires.sums
+    c.requires.begin_nonzero c.in_default.ensures _ row.r row.ensures.0 row.ensures.1 c.shifted-2.ensures

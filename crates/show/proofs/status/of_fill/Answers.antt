@@ -1,12 +1,13 @@
 -- `show::status::of_fill` meets its contract.
-use mathlib.Core.Path.{sym, ◌∙◌}
+use Rattle.std.specs.Prelude.{refl}
 use Rattle.show.specs.Status.{no_line, no_filling}
+use Rattle.show.proofs.Fill.{only_place}
 use Rattle.show.proofs.status.of_fill.Goals as goal
 
-pub returns-then-number-eq4 : goal.returns-then-number-eq4
-returns-then-number-eq4 c =
-    no_line (sym c.number.ensures ∙ c.if-number-eq4.true)
+pub returns-in-BadPlace : goal.returns-in-BadPlace
+returns-in-BadPlace c =
+    rw c.in-BadPlace.is (no_line refl)
 
-pub returns-else-number-eq4 : goal.returns-else-number-eq4
-returns-else-number-eq4 c =
-    no_filling (λ e. c.if-number-eq4.false (c.number.ensures ∙ e))
+pub returns-in_default : goal.returns-in_default
+returns-in_default c =
+    no_filling (only_place c.args.no c.in_default.not-BadPlace)

@@ -7,14 +7,6 @@ use Rattle.walk.specs.Bound.{product}
 use Rattle.walk.specs.Line.{run_within, ahead, sum_lower, sum_both}
 use Rattle.walk.proofs.sums.line_sum.Goals as goal
 
-pub overflow_mul-below : goal.overflow_mul-below
-overflow_mul-below c =
-    let a = c.args in omega (arith, product c.step-below.result (a.p - 1) (omega arith) (omega arith))
-
-pub overflow_add-below : goal.overflow_add-below
-overflow_add-below c =
-    let a = c.args in omega (arith, product c.step-below.result (a.p - 1) (omega arith) (omega arith))
-
 pub run_sum-lower-requires : goal.run_sum-lower-requires
 run_sum-lower-requires c =
     let a = c.args in

@@ -1,17 +1,17 @@
 -- `window::one::restore` meets its contract.
-use Rattle.reel.proofs.Other.{no_tile as none_there}
-use Rattle.window.specs.Treat.{no_tile}
-use Rattle.window.specs.Going.{within, restores_at}
+use Rattle.std.proofs.lemmas.Result.{err_from_is_err_and}
+use Rattle.window.specs.Going.{refused_there, within, restores_at}
 use Rattle.window.proofs.one.restore.Goals as goal
 
-pub returns-in_default : goal.returns-in_default
-returns-in_default c =
-    no_tile c.next-found.ensures (none_there c.next-found.result c.in_default.not-Tile) c.why.ensures
+pub returns-in_err-tile : goal.returns-in_err-tile
+returns-in_err-tile c =
+    let e = err_from_is_err_and c.from_residual.result c.from_residual.ensures.1 in
+    rw (e.1, e.2) (refused_there _ _ _ _ _ _ _ c.in_err-tile.ensures)
 
 pub restore-requires : goal.restore-requires
 restore-requires c =
-    within (rw c.in-Tile.is at c.next-found.ensures)
+    within c.in_ok-tile.ensures
 
 pub returns : goal.returns
 returns c =
-    restores_at (rw c.in-Tile.is at c.next-found.ensures) c.restore.ensures
+    restores_at c.in_ok-tile.ensures c.restore.ensures
