@@ -39,7 +39,8 @@ fn add_in_rows(rows: usize, width: usize, line: Line, change: &[u8; 257], bytes:
     }
 }
 
-// Adds `count` bytes, the first at `start` and each `step` after the one before it.
+// Adds `count` bytes, the first at `start` and each `step` after the one before it. (By their places: over `iter_mut().step_by(step)`
+// the proof that was tried did not close.)
 fn add_run(count: usize, start: usize, step: usize, change: &[u8; 257], bytes: &mut [u8])
     requires { (count ≤ 256) × (0 < count) × (0 < step) × (step ≤ 256) × (start + step * (count - 1) < length bytes.old) × (length bytes.old ≤ 65536) }
     ensures { RunAdded start step count (held change.now) bytes.old bytes.new }

@@ -23,7 +23,8 @@ pub fn take(p: usize, tile: &[u8], text: &mut [u8])
     }
 }
 
-// Copies `count` bytes, from `start` on, to `begin`.
+// Copies `count` bytes, from `start` on, to `begin`. (It is said once for both ways. The two above stay two, since they leave different
+// bytes as they were: one function for both would be no plainer.)
 fn copy(count: usize, from: &[u8], start: usize, to: &mut [u8], begin: usize)
     requires { (start + count ≤ length from.now) × (begin + count ≤ length to.old) }
     ensures { Copied from.now start to.old begin count to.new }

@@ -23,7 +23,7 @@ use Rattle.code.specs.Held.{held}
 use Rattle.walk.specs.Sums.{Sums}
 use Rattle.walk.specs.Along.{Stepping, Shifted}
 use Rattle.classes.specs.Many.{SettledSome, CrossedMany, no_crossed, one_crossed, several_crossed}
-use Rattle.classes.specs.declared.Unfilled.{Unfilled}
+use Rattle.size.specs.declared.Unclear.{Unclear}
 use Rattle.chain.specs.Solve.{SettledBy, Solved, none, one, several, Closes}
 
 -- the sums of both slopes have one total, also as arrays hold them
@@ -60,13 +60,13 @@ module _ (p l : ℕ) (a b : Line) (A B : ℕ → ℕ) where
 
 -- both of what is solved
 module _ (p l : ℕ) (a b : Line) (A B : ℕ → ℕ) (x y : ℕ → ℕ) where
-  pub solved_sums : (A' B' : ℕ → ℕ) {said : Result Unit Unfilled} → ((t : ℕ) → t < p → A t ≡ A' t) → ((t : ℕ) → t < p → B t ≡ B' t)
+  pub solved_sums : (A' B' : ℕ → ℕ) {said : Result Unit Unclear} → ((t : ℕ) → t < p → A t ≡ A' t) → ((t : ℕ) → t < p → B t ≡ B' t)
       → Solved p l a b A B x y said → Solved p l a b A' B' x y said
   solved_sums A' B' ha hb (one h s) = one h (record { settles = settles_sums p l A B A' B' _ ha hb s.settles; first = s.first; second = s.second })
   solved_sums A' B' ha hb (none f) = none (λ s. f (some_sums p l a b A' B' A B (λ t h. sym (ha t h)) (λ t h. sym (hb t h)) s))
   solved_sums A' B' ha hb (several d s) = several d (some_sums p l a b A B A' B' ha hb s)
 
-  pub solved_either : {said : Result Unit Unfilled} → Solved p l a b A B x y said → Solved p l b a A B y x said
+  pub solved_either : {said : Result Unit Unclear} → Solved p l a b A B x y said → Solved p l b a A B y x said
   solved_either (one h s) = one (sure_either p l a b h) (record {
     settles = settles_ext p l A B (plus (along a x) (along b y)) (plus (along b y) (along a x)) (λ i j hi hj. comm _ _) s.settles;
     first = s.second;
@@ -76,7 +76,7 @@ module _ (p l : ℕ) (a b : Line) (A B : ℕ → ℕ) (x y : ℕ → ℕ) where
   solved_either (several d s) = several (λ h. d (sure_either p l b a h)) (some_either p l a b A B s)
 
 -- rows are columns of the turned tile, whose slope is the inverse m
-pub solved_rows : (p l m r s : ℕ) (A B B' x y : ℕ → ℕ) {said : Result Unit Unfilled} → l * m % p ≡ 1 → Stepping p 0 l B B'
+pub solved_rows : (p l m r s : ℕ) (A B B' x y : ℕ → ℕ) {said : Result Unit Unclear} → l * m % p ≡ 1 → Stepping p 0 l B B'
     → Solved p m (Column r) (Column s) A B' x y said → Solved p l (Row r) (Row s) A B x y said
 solved_rows p l m r s A B B' x y inverse h (one sure t) = one (inl tt) (record {
   settles =
@@ -132,7 +132,7 @@ module _ (p l : ℕ) (A B : ℕ → ℕ) (S : Slope p l) where
   }
 
 -- a column with a row, where there is not one, and where there is
-pub not_one : {p l t s : ℕ} {A B x y : ℕ → ℕ} {why : Unfilled} → CrossedMany p l t s A B (Err why) → Solved p l (Column t) (Row s) A B x y (Err why)
+pub not_one : {p l t s : ℕ} {A B x y : ℕ → ℕ} {why : Unclear} → CrossedMany p l t s A B (Err why) → Solved p l (Column t) (Row s) A B x y (Err why)
 not_one (no_crossed f) = none f
 not_one (several_crossed d c) = several d c
 

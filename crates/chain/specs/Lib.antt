@@ -2,6 +2,7 @@
 pub mod Back
 pub mod Hand
 pub mod Solve
+pub mod Sums
 pub mod Agree
 pub mod Cases
 pub mod Settled

@@ -16,8 +16,8 @@ use Rattle.code.specs.declared.Line.TheVariants.{Row, Column}
 use Rattle.walk.specs.Fill.{through_once}
 use Rattle.walk.specs.Along.{Along, TakenOff}
 use Rattle.classes.specs.Many.{SettledSome}
-use Rattle.classes.specs.declared.Unfilled.{Unfilled}
-use Rattle.classes.specs.declared.Unfilled.TheVariants as unfilled
+use Rattle.size.specs.declared.Unclear.{Unclear}
+use Rattle.size.specs.declared.Unclear.TheVariants as unclear
 use Rattle.chain.specs.Hand.{Onward, weight_of, leads, FromColumn}
 
 -- x in the line a and y in the line b settle the sums A and B, and are 0 where the lines meet the added zeros
@@ -28,10 +28,10 @@ pub record SettledBy (p l : ℕ) (a b : Line) (A B x y : ℕ → ℕ) : Type 0 w
 
 -- whether one change in the lines a and b settles the sums. Where it does, x and y are it, and the lines are sure; where not, there is none, or
 -- there are several
-pub data Solved (p l : ℕ) (a b : Line) (A B x y : ℕ → ℕ) : Result Unit Unfilled → Type 0 where
-  none : (SettledSome p l a b A B → ⊥) → Solved p l a b A B x y (Err unfilled.None)
+pub data Solved (p l : ℕ) (a b : Line) (A B x y : ℕ → ℕ) : Result Unit Unclear → Type 0 where
+  none : (SettledSome p l a b A B → ⊥) → Solved p l a b A B x y (Err unclear.Damaged)
   one : Sure p l a b → SettledBy p l a b A B x y → Solved p l a b A B x y (Ok tt)
-  several : (Sure p l a b → ⊥) → SettledSome p l a b A B → Solved p l a b A B x y (Err unfilled.Several)
+  several : (Sure p l a b → ⊥) → SettledSome p l a b A B → Solved p l a b A B x y (Err unclear.Doubtful)
 
 -- how many hops there are between a column and the line b
 abbrev pub hops_of : ℕ → Line → ℕ

@@ -7,7 +7,7 @@ ghost use Rattle.code.specs.Held.{held};
 ghost use Rattle.chain.specs.Settled.{LinesSettled};
 
 use crate::pair;
-use crate::pair::Pair;
+use crate::sums::Sums;
 use cells::change::add_line;
 use code::Line;
 use code::lattice::Lattice;
@@ -21,14 +21,10 @@ pub fn settle(lattice: Lattice, a: &[u8; 257], b: &[u8; 257], tile: &mut [u8])
     let p = lattice.p;
     let first = p - 3;
     let second = p - 2;
-    let checks = Pair {
-        lattice,
-        column: first,
-        line: Line::Column(second),
-    };
+    let sums = Sums { lattice, a, b };
     let mut x = [0u8; 257];
     let mut y = [0u8; 257];
-    pair::solve(checks, a, b, &mut x, &mut y);
+    pair::solve(&sums, first, Line::Column(second), &mut x, &mut y);
     add_line(p, Line::Column(first), &x, tile);
     add_line(p, Line::Column(second), &y, tile);
 }

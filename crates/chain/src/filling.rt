@@ -6,21 +6,22 @@ ghost use Rattle.code.specs.OneLine as law;
 ghost use Rattle.code.specs.declared.Line.TheVariants.{Row, Column};
 ghost use Rattle.code.specs.Held.{held};
 ghost use Rattle.code.specs.Says.{Says};
-ghost use Rattle.chain.specs.Solve.{SettledBy, Solved, Closes};
+ghost use Rattle.chain.specs.Solve as chain;
+ghost use Rattle.chain.specs.Sums.{Solved};
 
 use crate::pair;
-use crate::pair::Pair;
 use crate::sums::Sums;
-use classes::Unfilled;
+use classes::Crossing;
 use code::lattice::Lattice;
 use code::{Kind, Line};
+use size::Unclear;
 use walk::along::{along, shifted};
 use walk::index::step;
 use walk::sums::both_sums;
 use walk::turn::inverse;
 
 // The filling of two lines of a tile, or of one line named twice: the changes in the first line and in the second that make it, where there
-// is one and no other.
+// is one and no other. (The lines and their changes are passed one by one, as what is promised of them, Solved, names them.)
 pub fn solve(
     kind: Kind,
     lattice: Lattice,
@@ -29,12 +30,12 @@ pub fn solve(
     second: Line,
     x: &mut [u8; 257],
     y: &mut [u8; 257],
-) -> Result<(), Unfilled>
+) -> Result<(), Unclear>
     requires takes { Takes kind lattice.p lattice.l }
     requires tile_len { length tile.now ≡ tile_length lattice.p }
     requires first_lt { law.number first < lattice.p - 1 }
     requires second_lt { law.number second < lattice.p - 1 }
-    ensures { let p = lattice.p in let l = lattice.l in Solved p l first second (sum p 1 (cell p tile.now)) (sum p l (cell p tile.now)) (held x.new) (held y.new) result }
+    ensures { let p = lattice.p in let l = lattice.l in chain.Solved p l first second (sum p 1 (cell p tile.now)) (sum p l (cell p tile.now)) (held x.new) (held y.new) result }
 {
     let mut a = [0u8; 257];
     let mut b = [0u8; 257];
@@ -47,7 +48,8 @@ pub fn solve(
     settle(kind, &sums, first, second, x, y)
 }
 
-// The changes in the two lines that settle the sums. (They are two arrays and no struct: where a row comes first they change places.)
+// The changes in the two lines that settle the sums. (A struct of the two arrays would be no plainer: it would be made the other way round
+// where a row comes first, and taken apart for `shifted`, which fills one of them, and for the chain, which fills them by turns.)
 fn settle(
     kind: Kind,
     sums: &Sums,
@@ -55,11 +57,11 @@ fn settle(
     second: Line,
     x: &mut [u8; 257],
     y: &mut [u8; 257],
-) -> Result<(), Unfilled>
+) -> Result<(), Unclear>
     requires takes { Takes kind sums.now.lattice.p sums.now.lattice.l }
     requires first_lt { law.number first < sums.now.lattice.p - 1 }
     requires second_lt { law.number second < sums.now.lattice.p - 1 }
-    ensures { Solved sums.now.lattice.p sums.now.lattice.l first second (held sums.now.a.now) (held sums.now.b.now) (held x.new) (held y.new) result }
+    ensures { Solved sums.now first second x.new y.new result }
 {
     match (first, second) {
         (Line::Row(r), Line::Row(s)) => rows(sums, r, s, x, y),
@@ -76,10 +78,10 @@ fn rows(
     s: usize,
     x: &mut [u8; 257],
     y: &mut [u8; 257],
-) -> Result<(), Unfilled>
+) -> Result<(), Unclear>
     requires r_lt { r < sums.now.lattice.p - 1 }
     requires s_lt { s < sums.now.lattice.p - 1 }
-    ensures { Solved sums.now.lattice.p sums.now.lattice.l (Row r) (Row s) (held sums.now.a.now) (held sums.now.b.now) (held x.new) (held y.new) result }
+    ensures { Solved sums.now (Row r) (Row s) x.new y.new result }
 {
     let Lattice { p, l } = sums.lattice;
     let mut turned = [0u8; 257];
@@ -103,26 +105,26 @@ fn columns(
     v: usize,
     x: &mut [u8; 257],
     y: &mut [u8; 257],
-) -> Result<(), Unfilled>
+) -> Result<(), Unclear>
     requires u_lt { u < sums.now.lattice.p - 1 }
     requires v_lt { v < sums.now.lattice.p - 1 }
-    ensures { Solved sums.now.lattice.p sums.now.lattice.l (Column u) (Column v) (held sums.now.a.now) (held sums.now.b.now) (held x.new) (held y.new) result }
+    ensures { Solved sums.now (Column u) (Column v) x.new y.new result }
 {
     if u == v {
         one_column(sums, u, x, y)
     } else {
-        paired(sums, u, Line::Column(v), x, y);
+        pair::solve(sums, u, Line::Column(v), x, y);
         Ok(())
     }
 }
 
 // One column, named twice: it has a filling where the sums agree along it.
-fn one_column(sums: &Sums, c: usize, x: &mut [u8; 257], y: &mut [u8; 257]) -> Result<(), Unfilled>
+fn one_column(sums: &Sums, c: usize, x: &mut [u8; 257], y: &mut [u8; 257]) -> Result<(), Unclear>
     requires { c < sums.now.lattice.p - 1 }
-    ensures { Solved sums.now.lattice.p sums.now.lattice.l (Column c) (Column c) (held sums.now.a.now) (held sums.now.b.now) (held x.new) (held y.new) result }
+    ensures { Solved sums.now (Column c) (Column c) x.new y.new result }
 {
     if !agree(sums, c) {
-        return Err(Unfilled::None);
+        return Err(Unclear::Damaged);
     }
     shifted(sums.lattice.p, c, 1, sums.a, x);
     *y = [0u8; 257];
@@ -155,28 +157,20 @@ fn crossed(
     s: usize,
     x: &mut [u8; 257],
     y: &mut [u8; 257],
-) -> Result<(), Unfilled>
+) -> Result<(), Unclear>
     requires takes { Takes kind sums.now.lattice.p sums.now.lattice.l }
     requires t_lt { t < sums.now.lattice.p - 1 }
     requires s_lt { s < sums.now.lattice.p - 1 }
-    ensures { Solved sums.now.lattice.p sums.now.lattice.l (Column t) (Row s) (held sums.now.a.now) (held sums.now.b.now) (held x.new) (held y.new) result }
+    ensures { Solved sums.now (Column t) (Row s) x.new y.new result }
 {
-    classes::crossed_fillings(kind, sums.lattice, t, s, sums.a, sums.b)?;
-    paired(sums, t, Line::Row(s), x, y);
-    Ok(())
-}
-
-// The changes in a column and a second line, where the chain between them closes.
-fn paired(sums: &Sums, column: usize, line: Line, x: &mut [u8; 257], y: &mut [u8; 257])
-    requires column_lt { column < sums.now.lattice.p }
-    requires line_lt { law.number line < sums.now.lattice.p }
-    requires closes { Closes sums.now.lattice.p sums.now.lattice.l column line (held sums.now.a.now) (held sums.now.b.now) }
-    ensures { SettledBy sums.now.lattice.p sums.now.lattice.l (Column column) line (held sums.now.a.now) (held sums.now.b.now) (held x.new) (held y.new) }
-{
-    let lost = Pair {
+    let crossing = Crossing {
         lattice: sums.lattice,
-        column,
-        line,
+        row: s,
+        column: t,
+        a: sums.a,
+        b: sums.b,
     };
-    pair::solve(lost, sums.a, sums.b, x, y);
+    classes::crossed_fillings(kind, &crossing)?;
+    pair::solve(sums, t, Line::Row(s), x, y);
+    Ok(())
 }

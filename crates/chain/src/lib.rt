@@ -5,4 +5,4 @@
 pub mod checks;
 pub mod filling;
 pub mod pair;
-mod sums;
+pub mod sums;

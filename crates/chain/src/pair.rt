@@ -1,52 +1,42 @@
 // A hurt column together with a second hurt line, a column or a row. The chain between them begins at the column's added zero. By a
 // line of slope 1 it comes to a symbol of the second line, from there by a line of slope l to one of the column, and so further.
-ghost use Rattle.std.specs.Prelude.{◌≡◌, ◌-◌, ◌*◌, ◌≤◌, ◌<◌, length};
+ghost use Rattle.std.specs.Prelude.{◌≡◌, ◌-◌, ◌*◌, ◌≤◌, ◌<◌};
 ghost use Rattle.residue.specs.Remainder as remainder;
 ghost use Rattle.code.specs.OneLine as law;
 ghost use Rattle.code.specs.declared.Line.TheVariants.{Column};
 ghost use Rattle.code.specs.Held.{held};
 ghost use Rattle.chain.specs.Hand.{Places, weight_of, FromColumn, FromLine};
-ghost use Rattle.chain.specs.Solve.{SettledBy, Closes, hops_of};
+ghost use Rattle.chain.specs.Solve.{hops_of};
+ghost use Rattle.chain.specs.Sums.{SettledBy, Closes};
 
+use crate::sums::Sums;
 use code::Line;
 use code::lattice::Lattice;
 use walk::along::{along, take_off_common};
 use walk::index::{number, step, through};
 
-// A column and a second line of a tile.
-#[derive(Clone, Copy)]
-pub struct Pair {
-    pub lattice: Lattice,
-    pub column: usize,
-    pub line: Line,
-}
-
-// Puts into x the change in the column, and into y that in the second line, which settle the sums a and b.
-pub fn solve(pair: Pair, a: &[u8; 257], b: &[u8; 257], x: &mut [u8; 257], y: &mut [u8; 257])
-    requires column_lt { pair.column < pair.lattice.p }
-    requires line_lt { law.number pair.line < pair.lattice.p }
-    requires closes { Closes pair.lattice.p pair.lattice.l pair.column pair.line (held a.now) (held b.now) }
-    ensures { SettledBy pair.lattice.p pair.lattice.l (Column pair.column) pair.line (held a.now) (held b.now) (held x.new) (held y.new) }
+// Puts into x the change in the column, and into y that in the second line, which settle the sums.
+pub fn solve(sums: &Sums, column: usize, line: Line, x: &mut [u8; 257], y: &mut [u8; 257])
+    requires column_lt { column < sums.now.lattice.p }
+    requires line_lt { law.number line < sums.now.lattice.p }
+    requires closes { Closes sums.now column line }
+    ensures { SettledBy sums.now (Column column) line x.new y.new }
 {
-    let Pair {
-        lattice: Lattice { p, l },
-        column: c,
-        line,
-    } = pair;
+    let Lattice { p, l } = sums.lattice;
     *x = [0u8; 257];
-    along(p, number(line), 1, a, y);
+    along(p, number(line), 1, sums.a, y);
     let base = through(p, l, line, 0);
     // each hop fills a symbol of the second line, and each but the last one of the column
     let unfilled = 2 * hops(p, line) - 1;
     to_line(
         p,
-        c,
+        column,
         number(line),
         base,
         weight(l, line),
-        l * c % p,
-        a,
-        b,
+        l * column % p,
+        sums.a,
+        sums.b,
         x,
         y,
         p - 1,

@@ -7,9 +7,9 @@ use code::lattice::Lattice;
 
 // The sums of the lines of a tile: in a those of slope 1, and in b those of slope l. Each has the same total, the tile's.
 #[derive(Clone, Copy)]
-pub(crate) struct Sums<'a> {
-    pub(crate) lattice: Lattice,
-    pub(crate) a: &'a [u8; 257],
-    pub(crate) b: &'a [u8; 257],
-    ghost one_total: { xor_below lattice.p (held a.now) ≡ xor_below lattice.p (held b.now) },
+pub struct Sums<'a> {
+    pub lattice: Lattice,
+    pub a: &'a [u8; 257],
+    pub b: &'a [u8; 257],
+    pub ghost one_total: { xor_below lattice.p (held a.now) ≡ xor_below lattice.p (held b.now) },
 }

@@ -13,8 +13,8 @@ use Rattle.code.specs.Classes.{ClassesAgree, classes_settled, settles_classes}
 use Rattle.code.specs.Fillings.{Sure}
 use Rattle.code.specs.declared.Line.{Line}
 use Rattle.code.specs.declared.Line.TheVariants.{Row, Column}
-use Rattle.classes.specs.declared.Unfilled.{Unfilled}
-use Rattle.classes.specs.declared.Unfilled.TheVariants as unfilled
+use Rattle.size.specs.declared.Unclear.{Unclear}
+use Rattle.size.specs.declared.Unclear.TheVariants as unclear
 
 -- some change in the lines a and b settles the sums
 pub record SettledSome (p l : ℕ) (a b : Line) (A B : ℕ → ℕ) : Type 0 where
@@ -24,10 +24,10 @@ pub record SettledSome (p l : ℕ) (a b : Line) (A B : ℕ → ℕ) : Type 0 whe
   pub off : ZeroOffBoth p a b by
 
 -- whether there is one in column t with row s, and no other. Where it is, the slope reaches all, and the two sums through the crossing agree
-pub data CrossedMany (p l t s : ℕ) (A B : ℕ → ℕ) : Result Unit Unfilled → Type 0 where
-  no_crossed : (SettledSome p l (Column t) (Row s) A B → ⊥) → CrossedMany p l t s A B (Err unfilled.None)
+pub data CrossedMany (p l t s : ℕ) (A B : ℕ → ℕ) : Result Unit Unclear → Type 0 where
+  no_crossed : (SettledSome p l (Column t) (Row s) A B → ⊥) → CrossedMany p l t s A B (Err unclear.Damaged)
   one_crossed : ReachesAll p l → A (line p 1 s t) ≡ B (line p l s t) → CrossedMany p l t s A B (Ok tt)
-  several_crossed : (Sure p l (Column t) (Row s) → ⊥) → SettledSome p l (Column t) (Row s) A B → CrossedMany p l t s A B (Err unfilled.Several)
+  several_crossed : (Sure p l (Column t) (Row s) → ⊥) → SettledSome p l (Column t) (Row s) A B → CrossedMany p l t s A B (Err unclear.Doubtful)
 
 -- ---- which it is
 

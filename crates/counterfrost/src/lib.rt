@@ -1,5 +1,6 @@
-// The face for C and Rust, as include/counterfrost.h declares it. Each call wraps a proved one: it answers by a word, and promises what that
-// one does. None asks anything of its input.
+// The face for C and Rust, as include/counterfrost.h declares it. Each call wraps a proved one: it answers by a word, and promises what
+// that one does. None asks anything of its input. (That header and the promises in specs/Calls.antt have each number and each place to
+// write to as a parameter of its own, so the calls do, however many.)
 #![tactic(auto)]
 
 ghost use Rattle.std.specs.Prelude.{◌≡◌};
@@ -144,8 +145,8 @@ pub extern "C" fn cf_next(
     *number = 0;
     *p = 0;
     *l = 0;
-    *first = 0xFFFF;
-    *second = 0xFFFF;
+    *first = flag::NONE as u64;
+    *second = flag::NONE as u64;
     *offset = 0;
     match reel::next(reel, at) {
         Found::Tile(tile) => {

@@ -11,10 +11,7 @@ use words::Verb;
 // Does what the words of the command line ask, and answers the exit status.
 pub fn run(rt: &HostRuntime) -> Status {
     let _stand_ins = streams::stand_in(rt);
-    match served(rt) {
-        Ok(status) => status,
-        Err(status) => status,
-    }
+    served(rt).unwrap_or_else(|status| status)
 }
 
 // Does it, or tells what is wrong.
@@ -26,8 +23,8 @@ fn served(rt: &HostRuntime) -> Result<Status, Status> {
         Verb::Repair => return Ok(whole::repair(rt, asked.force)?),
         Verb::Map => return Ok(whole::map(rt, asked.text)?),
         Verb::Read => single::read(rt)?,
-        Verb::Write => maker::write(rt, asked.plain, asked.force)?,
-        Verb::Fill => single::fill(rt, asked.plain, asked.force)?,
+        Verb::Write => maker::write(rt, asked)?,
+        Verb::Fill => single::fill(rt, asked)?,
         Verb::Correct => single::correct(rt, asked.force)?,
         Verb::Help => guide::help(rt, asked.plain)?,
         Verb::Version => guide::version(rt)?,

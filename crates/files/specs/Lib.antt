@@ -1,2 +1,3 @@
 -- The command's files and words: what an exit status may be.
 pub mod Exit
+pub mod Status

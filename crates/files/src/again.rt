@@ -9,32 +9,31 @@ use std::io::{Error, ErrorKind, Read, Seek, SeekFrom, Stdin};
 use std::os::unix::fs::{FileTypeExt, OpenOptionsExt};
 use std::random::RandomSource;
 
-// How what is read can be read a second time: from the place where it stands, to which it is set back; by another reader, which stands at
-// the same place; or not at all.
+// How what is read can be read a second time: from the place where it stands, to which it is set back; or by another reader, which stands
+// at the same place.
 #[derive(Drop)]
 pub enum Second<'a> {
-    From(u64),
-    By(Input<'a>),
-    No,
+    SetBack(u64),
+    Other(Input<'a>),
 }
 
-// How a reel can be read a second time, if it can be read.
-pub fn how<'a>(rt: &HostRuntime, reel: &Input<'a>) -> Result<Second<'a>, Told> {
+// How a reel can be read a second time, where it can be. If it cannot be read at all, that is told.
+pub fn how<'a>(rt: &HostRuntime, reel: &Input<'a>) -> Result<Option<Second<'a>>, Told> {
     let name = reel.name;
     match &reel.source {
         Source::Standard(stdin) => match second_standard(rt, *stdin) {
-            Ok(Some(file)) => Ok(Second::By(Input {
+            Ok(Some(file)) => Ok(Some(Second::Other(Input {
                 name,
                 source: Source::Named(file),
-            })),
-            Ok(None) => Ok(Second::No),
+            }))),
+            Ok(None) => Ok(None),
             Err(error) => Err(input::failed(rt, name, error)),
         },
         Source::Named(file) => {
             let mut file = file;
             match file.stream_position() {
-                Ok(place) => Ok(Second::From(place)),
-                Err(_) => Ok(Second::No),
+                Ok(place) => Ok(Some(Second::SetBack(place))),
+                Err(_) => Ok(None),
             }
         }
     }
@@ -98,7 +97,7 @@ pub fn kept<'a>(rt: &HostRuntime, reel: &Input<'a>) -> Result<Input<'a>, Told> {
         Err(error) => return Err(say::failed(rt, UNNAMED, error)),
     };
     let Unnamed { file, path } = made;
-    let mut room = windows::room();
+    let mut room = [0; windows::WINDOW];
     if let Err(failure) = windows::copy(&reel.source, &file, &mut room) {
         return Err(failure.told(rt, reel.name, path.as_str().as_bytes()));
     }

@@ -31,7 +31,8 @@ impl Asked {
     }
 }
 
-// All words behind the command. The first that is too long to be held, or that the command does not take, is told.
+// All words behind the command. The first that is too long to be held, or that the command does not take, is told. How many there are only
+// the system knows, and a loop without an end needs the handle Wait, which no function here has: so it is a range.
 fn all(rt: &HostRuntime, verb: Verb) -> Result<Asked, Told> {
     let mut asked = Asked {
         plain: 0,
@@ -70,8 +71,9 @@ pub fn words(rt: &HostRuntime, verb: Verb) -> Result<Asked, Told> {
     Ok(asked)
 }
 
-// The k-th plain word. If it is not there and whole, that is said. It is looked for in a frame of its own, so that what that takes is free
-// again. A chain with `nth` would move each word from step to step: it takes ten times as long for the texts of `write`.
+// The k-th plain word. Where it is not there or cannot be held whole, it is said that a word is too long. It is looked for in a frame of
+// its own, so that what that takes is free again. The range is the one of `all`. A chain with `nth` would move each word from step to
+// step: it takes ten times as long for the texts of `write`.
 #[inline(never)]
 pub fn word(rt: &HostRuntime, k: usize) -> Result<Word, Told> {
     let mut word = Word::empty();
@@ -95,8 +97,8 @@ pub fn word(rt: &HostRuntime, k: usize) -> Result<Word, Told> {
 pub fn number(rt: &HostRuntime, verb: Verb, k: usize) -> Result<usize, Told> {
     let word = word(rt, k)?;
     words::number(word.bytes()).map_err(|why| match why {
-        NoNumber::TooLarge => guide::wrong(rt, verb, word.bytes(), b": above 4294967295"),
-        NoNumber::NotDigits => guide::wrong(rt, verb, word.bytes(), b": no number"),
+        NoNumber::TooLarge => guide::wrong(rt, verb, word.bytes(), ": above 4294967295"),
+        NoNumber::NotDigits => guide::wrong(rt, verb, word.bytes(), ": no number"),
     })
 }
 

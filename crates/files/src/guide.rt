@@ -7,54 +7,54 @@ use words::Verb;
 // How a command goes, and what it does, in a line each.
 #[derive(Clone, Copy)]
 struct Guide {
-    goes: &'static [u8],
-    does: &'static [u8],
+    goes: &'static str,
+    does: &'static str,
 }
 
 // How it goes where no command is named.
-const GOES: &[u8] = b"counterfrost COMMAND WORD...; counterfrost help tells the commands\n";
+const GOES: &str = "counterfrost COMMAND WORD...; counterfrost help tells the commands";
 
 // What closes the help.
-const STATUSES: &[u8] =
-    b"    exit status: 0 nothing is wrong, 1 something is, on the reel, 2 with the call or by the system\n";
+const STATUSES: &str =
+    "    exit status: 0 nothing is wrong, 1 something is, on the reel, 2 with the call or by the system";
 
 fn guide_of(verb: Verb) -> Guide {
     match verb {
         Verb::List => Guide {
-            goes: b"counterfrost list REEL\n",
-            does: b"    a line for each tile, and one that closes the listing; - is standard input\n",
+            goes: "counterfrost list REEL",
+            does: "a line for each tile, and one that closes the listing; - is standard input",
         },
         Verb::Repair => Guide {
-            goes: b"counterfrost repair REEL NEW [--force]\n",
-            does: b"    a new reel on which the tiles are mended as far as they can be, and the listing\n",
+            goes: "counterfrost repair REEL NEW [--force]",
+            does: "a new reel on which the tiles are mended as far as they can be, and the listing",
         },
         Verb::Map => Guide {
-            goes: b"counterfrost map REEL [--text]\n",
-            does: b"    a picture of the reel in SVG, or with --text in signs\n",
+            goes: "counterfrost map REEL [--text]",
+            does: "a picture of the reel in SVG, or with --text in signs",
         },
         Verb::Read => Guide {
-            goes: b"counterfrost read REEL NUMBER\n",
-            does: b"    what a tile says, mended first; if several have the number, the first\n",
+            goes: "counterfrost read REEL NUMBER",
+            does: "what a tile says, mended first; if several have the number, the first",
         },
         Verb::Write => Guide {
-            goes: b"counterfrost write NEW P L NUMBER TEXT... [--force]\n",
-            does: b"    a new reel of the texts' tiles, numbered from NUMBER on; L may be house\n",
+            goes: "counterfrost write NEW P L NUMBER TEXT... [--force]",
+            does: "a new reel of the texts' tiles, numbered from NUMBER on; L may be house",
         },
         Verb::Fill => Guide {
-            goes: b"counterfrost fill REEL NEW NUMBER LINE [LINE] [--force]\n",
-            does: b"    a new reel with lines of one tile filled; LINE is row:N or column:N\n",
+            goes: "counterfrost fill REEL NEW NUMBER LINE [LINE] [--force]",
+            does: "a new reel with lines of one tile filled; LINE is row:N or column:N",
         },
         Verb::Correct => Guide {
-            goes: b"counterfrost correct REEL NEW NUMBER SHEET [--force]\n",
-            does: b"    a new reel with the text of one tile corrected by a sheet\n",
+            goes: "counterfrost correct REEL NEW NUMBER SHEET [--force]",
+            does: "a new reel with the text of one tile corrected by a sheet",
         },
         Verb::Help => Guide {
-            goes: b"counterfrost help [COMMAND]\n",
-            does: b"    this, or what is said here of one command\n",
+            goes: "counterfrost help [COMMAND]",
+            does: "this, or what is said here of one command",
         },
         Verb::Version => Guide {
-            goes: b"counterfrost version\n",
-            does: b"    the version\n",
+            goes: "counterfrost version",
+            does: "the version",
         },
     }
 }
@@ -64,56 +64,52 @@ pub fn goes(rt: &HostRuntime, verb: Verb) -> Told {
     it_goes(rt, guide_of(verb).goes)
 }
 
-fn it_goes(rt: &HostRuntime, how: &[u8]) -> Told {
-    say::name(rt);
-    say::words(rt, b"it goes: ");
-    say::words(rt, how);
-    Told
+fn it_goes(rt: &HostRuntime, how: &str) -> Told {
+    say::line(rt, format_args!("it goes: {how}"))
 }
 
 pub fn no_command(rt: &HostRuntime) -> Told {
-    say::line(rt, b"no command is named");
+    say::line(rt, "no command is named");
     it_goes(rt, GOES)
 }
 
 pub fn not_a_command(rt: &HostRuntime, word: &[u8]) -> Told {
-    say::about(rt, word, b": no such command");
+    say::about(rt, word, ": no such command");
     it_goes(rt, GOES)
 }
 
 // The word is an option that the command does not take.
 pub fn wrong_option(rt: &HostRuntime, verb: Verb, word: &[u8]) -> Told {
-    wrong(rt, verb, word, b": no such option")
+    wrong(rt, verb, word, ": no such option")
 }
 
 pub fn too_few(rt: &HostRuntime, verb: Verb) -> Told {
-    say::line(rt, b"a word is missing");
+    say::line(rt, "a word is missing");
     goes(rt, verb)
 }
 
 // The word is the first that is too many.
 pub fn too_many(rt: &HostRuntime, verb: Verb, word: &[u8]) -> Told {
-    wrong(rt, verb, word, b": one word too many")
+    wrong(rt, verb, word, ": one word too many")
 }
 
 // What was wrong with a word, and how the command goes.
-pub fn wrong(rt: &HostRuntime, verb: Verb, word: &[u8], said: &[u8]) -> Told {
+pub fn wrong(rt: &HostRuntime, verb: Verb, word: &[u8], said: &str) -> Told {
     say::about(rt, word, said);
     goes(rt, verb)
 }
 
 // How a command goes, and what it does.
 fn print_one(rt: &HostRuntime, verb: Verb) -> Result<(), Error> {
-    let guide = guide_of(verb);
-    rt.stdout().write_all(guide.goes)?;
-    rt.stdout().write_all(guide.does)
+    let Guide { goes, does } = guide_of(verb);
+    println!(rt; "{goes}\n    {does}")
 }
 
 fn print_all(rt: &HostRuntime) -> Result<(), Error> {
     for verb in Verb::ALL {
         print_one(rt, verb)?;
     }
-    rt.stdout().write_all(STATUSES)
+    rt.println(STATUSES)
 }
 
 // Helps with all commands, or with the one that is named.

@@ -93,8 +93,10 @@ impl Source {
 
     // Reads behind the first bytes of a room until it is full, the input ends or a read fails. Each turn goes on by as many bytes as came,
     // which no range and no iterator knows beforehand.
-    pub fn fill(&self, room: &mut [u8], behind: usize) -> Result<Held, Error> {
-        let mut count = behind;
+    pub fn fill(&self, room: &mut [u8], behind: usize) -> Result<Held, Error>
+        ensures { IfOk result (λ held. IsPrefixLen held.count room.new) }
+    {
+        let mut count = behind.min(room.len());
         while count < room.len() {
             let more = self.read(&mut room[count..])?;
             if more == 0 {
@@ -151,10 +153,7 @@ impl<'a> Input<'a> {
     // Reads what there is room for. If that fails, it is told.
     pub fn read<'r>(&self, rt: &HostRuntime, room: &'r mut [u8]) -> Result<&'r [u8], Told> {
         match self.source.fill(room, 0) {
-            Ok(held) => {
-                let count = say::at_most(held.count, room);
-                Ok(&room[..count])
-            }
+            Ok(held) => Ok(&room[..held.count]),
             Err(error) => Err(failed(rt, self.name, error)),
         }
     }

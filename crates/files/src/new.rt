@@ -9,13 +9,19 @@ use std::fs::{File, OpenOptions};
 use std::io::{Error, ErrorKind, Write};
 use std::os::fd::AsRawFd;
 
-// The file that is written, the name that it has meanwhile, the one that it is to get, and whether it may take that from another file.
+// The name that a new reel is to get, and whether it may take that from another file.
+#[derive(Clone, Copy)]
+pub struct Target<'a> {
+    pub name: &'a [u8],
+    pub force: bool,
+}
+
+// The file that is written, the name that it has meanwhile, and what it is to become.
 #[derive(Drop)]
 pub struct NewReel<'a> {
     pub file: File,
     pub part: Word,
-    name: &'a [u8],
-    force: bool,
+    target: Target<'a>,
 }
 
 // Makes a new reel by some work on it, beside a reel that is read, if there is one. It is kept where the work is done, and taken away where
@@ -23,13 +29,12 @@ pub struct NewReel<'a> {
 pub fn made<T: Drop, E: Drop + From<Told>, F: FnOnce(&NewReel) -> Result<T, E>>(
     rt: &HostRuntime,
     reel: Option<&Source>,
-    name: &[u8],
-    force: bool,
+    target: Target,
     work: F,
 ) -> Result<T, E>
     requires { F.IsAlwaysCallable work }
 {
-    let new = NewReel::begun(rt, reel, name, force)?;
+    let new = NewReel::begun(rt, reel, target)?;
     match work(&new) {
         Ok(done) => {
             new.keep(rt)?;
@@ -47,38 +52,26 @@ impl<'a> NewReel<'a> {
     fn begun(
         rt: &HostRuntime,
         reel: Option<&Source>,
-        name: &'a [u8],
-        force: bool,
+        target: Target<'a>,
     ) -> Result<NewReel<'a>, Told> {
         let mut part = Word::empty();
-        part.push(name);
+        part.push(target.name);
         part.push(b".part");
-        may_be_made(rt, reel, name, force)?;
+        may_be_made(rt, reel, target)?;
         let file = create(rt, part.bytes())?;
-        Ok(NewReel {
-            file,
-            part,
-            name,
-            force,
-        })
+        Ok(NewReel { file, part, target })
     }
 
-    // Writes the first bytes of a room behind what the new reel has.
-    pub fn write(&self, room: &[u8], count: usize) -> Result<(), Error> {
+    // Writes bytes behind what the new reel has.
+    pub fn write(&self, bytes: &[u8]) -> Result<(), Error> {
         let mut file = &self.file;
-        let count = say::at_most(count, room);
-        file.write_all(&room[..count])
+        file.write_all(bytes)
     }
 
     // Gives the new reel its name, when all of it is on the device. If that fails, it is said, and the new reel is taken away.
     fn keep(self, rt: &HostRuntime) -> Result<(), Told> {
-        let NewReel {
-            file,
-            part,
-            name,
-            force,
-        } = self;
-        let named = named(rt, file, part.bytes(), name, force);
+        let NewReel { file, part, target } = self;
+        let named = named(rt, file, part.bytes(), target);
         if named.is_err() {
             take_away(rt, part.bytes());
         }
@@ -94,21 +87,17 @@ impl<'a> NewReel<'a> {
 }
 
 // May the new reel have its name? If not, it is said why. There is no `reel` where none is read.
-fn may_be_made(
-    rt: &HostRuntime,
-    reel: Option<&Source>,
-    name: &[u8],
-    force: bool,
-) -> Result<(), Told> {
+fn may_be_made(rt: &HostRuntime, reel: Option<&Source>, target: Target) -> Result<(), Told> {
+    let Target { name, force } = target;
     if input::is_standard(name) {
-        return Err(say::about(rt, name, b": no name for a new reel"));
+        return Err(say::about(rt, name, ": no name for a new reel"));
     }
     if !is_there(rt, name) {
         return Ok(());
     }
     if let Some(reel) = reel {
-        if same::is_reel(rt, reel, name, force) {
-            return Err(say::about(rt, name, b": the reel itself"));
+        if same::is_reel(rt, reel, target) {
+            return Err(say::about(rt, name, ": the reel itself"));
         }
     }
     if !force {
@@ -117,7 +106,7 @@ fn may_be_made(
     Ok(())
 }
 
-// Is something there under the name, a link that leads nowhere too? Nothing is opened for that. Where the system says something else, whoever
+// Is something there under the name, a link that leads nowhere too? Nothing is opened for that. Where the system says something else, who
 // makes the file will be told.
 fn is_there(rt: &HostRuntime, name: &[u8]) -> bool {
     match input::path(name) {
@@ -128,7 +117,7 @@ fn is_there(rt: &HostRuntime, name: &[u8]) -> bool {
 
 // Says that something is there under the name.
 fn is_taken(rt: &HostRuntime, name: &[u8]) -> Told {
-    say::about(rt, name, b": exists already; --force replaces it")
+    say::about(rt, name, ": exists already; --force replaces it")
 }
 
 // Makes the file of a new reel, which is not there yet. It may not take the number of a standard stream that is closed.
@@ -136,7 +125,7 @@ fn create(rt: &HostRuntime, part: &[u8]) -> Result<File, Told> {
     match create_new(rt, part) {
         Ok(file) if file.as_raw_fd() < 3 => {
             take_away(rt, part);
-            Err(say::line(rt, b"standard output: closed"))
+            Err(say::line(rt, "standard output: closed"))
         }
         Ok(file) => Ok(file),
         Err(error) => Err(not_made(rt, part, error)),
@@ -157,7 +146,7 @@ fn not_made(rt: &HostRuntime, part: &[u8], error: Error) -> Told {
         say::about(
             rt,
             part,
-            b": exists already; it is another run's, or was left by one that was interrupted",
+            ": exists already; it is another run's, or was left by one that was interrupted",
         )
     } else {
         say::failed(rt, part, error)
@@ -165,11 +154,12 @@ fn not_made(rt: &HostRuntime, part: &[u8], error: Error) -> Told {
 }
 
 // The file of a new reel gets its name, if that is still free or may be taken.
-fn named(rt: &HostRuntime, file: File, part: &[u8], name: &[u8], force: bool) -> Result<(), Told> {
+fn named(rt: &HostRuntime, file: File, part: &[u8], target: Target) -> Result<(), Told> {
     if let Err(error) = file.sync_all() {
         return Err(say::failed(rt, part, error));
     }
     drop(file);
+    let Target { name, force } = target;
     if !force && is_there(rt, name) {
         return Err(is_taken(rt, name));
     }

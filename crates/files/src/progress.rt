@@ -3,16 +3,17 @@ use crate::say;
 use std::io::IsTerminal;
 use std::time::Clock as SystemClock;
 
-// How much was told: nothing yet; nothing, but a second has begun since; or something, which has to be taken away in the end.
+// What stands on the terminal: nothing yet; nothing, but a second has begun since; or how far the work is, which is taken away in the
+// end.
 #[derive(Clone, Copy, Debug, PartialEq, Eq)]
 enum Progress {
     Begun,
     Due,
-    Told,
+    Shown,
 }
 
-// The second in which the work was last looked at, and how much was told. It is quiet where rows that are not done yet stand on the same
-// terminal.
+// The second in which the work was last looked at, and what stands on the terminal. It is quiet where rows that are not done yet stand on
+// the same terminal.
 #[derive(Clone, Copy)]
 pub struct Clock {
     second: u64,
@@ -47,17 +48,13 @@ impl Clock {
             self.progress = Progress::Due;
             return;
         }
-        say::words(rt, b"\r\x1b[Kcounterfrost: ");
-        say::number(rt, tiles);
-        say::words(rt, b" tiles, ");
-        say::number(rt, bytes);
-        say::words(rt, b" bytes");
-        self.progress = Progress::Told;
+        let _ = eprint!(rt; "\r\x1b[Kcounterfrost: {tiles} tiles, {bytes} bytes");
+        self.progress = Progress::Shown;
     }
 
     // Takes away what was told.
     pub fn clear(&self, rt: &HostRuntime) {
-        if self.progress == Progress::Told {
+        if self.progress == Progress::Shown {
             say::words(rt, b"\r\x1b[K");
         }
     }

@@ -1,6 +1,7 @@
 // Whether what is there under the name of a new reel is the reel that is read.
 use crate::input;
 use crate::input::Source;
+use crate::new::Target;
 use std::fmt::InlineText;
 use std::fs;
 use std::fs::{File, OpenOptions};
@@ -9,10 +10,11 @@ use std::os::fd::AsRawFd;
 use std::os::unix::fs::MetadataExt;
 use std::path::PathBuf;
 
-// Is what is there under the name the reel that is read? Where the system does not tell, it may be. A pipe is opened for reading and writing,
-// which does not wait; for reading alone only if it is to be replaced. What cannot be opened may be the reel only if that came opened.
-pub fn is_reel(rt: &HostRuntime, reel: &Source, name: &[u8], force: bool) -> bool {
-    match opened(rt, name, force) {
+// Is what is there under the name the reel that is read? Where the system does not tell, it may be. A pipe is opened for reading and
+// writing, which does not wait; for reading alone only if it is to be replaced. What cannot be opened may be the reel only if that came
+// opened.
+pub fn is_reel(rt: &HostRuntime, reel: &Source, target: Target) -> bool {
+    match opened(rt, target) {
         Ok(file) => is_same(rt, reel, &file),
         Err(_) => match reel {
             Source::Standard(_) => true,
@@ -22,12 +24,12 @@ pub fn is_reel(rt: &HostRuntime, reel: &Source, name: &[u8], force: bool) -> boo
 }
 
 // Opens what is there under the name.
-fn opened(rt: &HostRuntime, name: &[u8], force: bool) -> Result<File, Error> {
-    let path = input::path(name)?;
+fn opened(rt: &HostRuntime, target: Target) -> Result<File, Error> {
+    let path = input::path(target.name)?;
     let mut both = OpenOptions::new();
     both.read(true).write(true);
     match both.open(rt, path) {
-        Err(_) if force => File::open(rt, path),
+        Err(_) if target.force => File::open(rt, path),
         opened => opened,
     }
 }

@@ -3,7 +3,7 @@ ghost use Rattle.io.specs.Counts.{IsPrefixLen};
 
 use crate::told::Told;
 use lettering::line;
-use std::fmt::InlineText;
+use std::fmt::{Display, InlineText};
 use std::io::Error;
 
 // Words as they are.
@@ -17,31 +17,23 @@ pub fn name(rt: &HostRuntime) {
 }
 
 // A whole line on what is wrong.
-pub fn line(rt: &HostRuntime, said: &[u8]) -> Told {
-    name(rt);
-    words(rt, said);
-    words(rt, b"\n");
+pub fn line<D: Display + Drop>(rt: &HostRuntime, said: D) -> Told {
+    let _ = eprintln!(rt; "counterfrost: {said}");
     Told
 }
 
-// A line on what is wrong with a word or a file.
-pub fn about(rt: &HostRuntime, what: &[u8], said: &[u8]) -> Told {
+// A line on what is wrong with a word or a file. Its name is written as it is, since it may be no UTF-8.
+pub fn about<D: Display + Drop>(rt: &HostRuntime, what: &[u8], said: D) -> Told {
     name(rt);
     words(rt, what);
-    words(rt, said);
-    words(rt, b"\n");
+    let _ = rt.eprintln(said);
     Told
 }
 
 // Why the system refused, in its own words.
 pub fn failed(rt: &HostRuntime, what: &[u8], error: Error) -> Told {
     let said = InlineText::<256>::of(error);
-    name(rt);
-    words(rt, what);
-    words(rt, b": ");
-    words(rt, own_words(said.as_str()).as_bytes());
-    words(rt, b"\n");
-    Told
+    about(rt, what, format_args!(": {}", own_words(said.as_str())))
 }
 
 // Why the output could not be written.
@@ -55,13 +47,6 @@ fn own_words(said: &str) -> &str {
         .map_or(said, |(words, _)| words)
 }
 
-// A number, on standard error.
-pub fn number(rt: &HostRuntime, n: usize) {
-    let mut digits = [0u8; 20];
-    let count = io::decimal(n as u64, &mut digits);
-    words(rt, &digits[..count]);
-}
-
 // A line of a listing, behind the command's name.
 pub fn listed(rt: &HostRuntime, line: line::Line) {
     name(rt);
@@ -70,13 +55,12 @@ pub fn listed(rt: &HostRuntime, line: line::Line) {
 
 // Prints a line of a listing, or says that it could not be written.
 pub fn print_line(rt: &HostRuntime, line: line::Line) -> Result<(), Told> {
-    arrived(rt, rt.stdout().write_all(line.text()))
+    print(rt, line.text())
 }
 
-// Prints the first bytes of a page, or says that they could not be written.
-pub fn print(rt: &HostRuntime, page: &[u8], used: usize) -> Result<(), Told> {
-    let n = at_most(used, page);
-    arrived(rt, rt.stdout().write_all(&page[..n]))
+// Prints bytes, or says that they could not be written.
+pub fn print(rt: &HostRuntime, bytes: &[u8]) -> Result<(), Told> {
+    arrived(rt, rt.stdout().write_all(bytes))
 }
 
 // Says whether the output arrived.

@@ -1,6 +1,4 @@
 // A reel that is walked by windows, one behind the other, each of which begins where a record does (SPEC 12.9).
-ghost use Rattle.std.specs.Prelude.{◌≡◌, length};
-
 use crate::input::{Input, Source};
 use crate::new::NewReel;
 use crate::progress::Clock;
@@ -10,12 +8,8 @@ use size::Refusal;
 use std::fs::File;
 use std::io::Write;
 
-// Room for a window: four times the largest record and a little less.
-pub fn room() -> [u8; 262144]
-    ensures { 262144 ≡ length result }
-{
-    [0; 262144]
-}
+// The bytes of a window: four times the largest record and a little less.
+pub const WINDOW: usize = 262144;
 
 // Where a walk stopped, and why.
 #[derive(Clone, Copy)]
@@ -67,7 +61,7 @@ impl<'r, 'w> Windows<'r, 'w> {
         self.reel.name
     }
 
-    // What the window holds.
+    // What the window holds. The room is lent and `held` a number beside it, so nothing but this bounds it by the room.
     pub fn window(&mut self) -> &mut [u8] {
         let held = say::at_most(self.held, self.room);
         &mut self.room[..held]
@@ -115,10 +109,13 @@ impl<'r, 'w> Windows<'r, 'w> {
         }
     }
 
-    // The first bytes of the window go to the new reel, if there is one.
+    // The first bytes of the window go to the new reel, if there is one. Whoever walks says how many, so nothing bounds them but the room.
     fn copied(&self, count: usize) -> Result<(), Failure> {
         match self.new {
-            Some(new) => new.write(self.room, count).map_err(Failure::New),
+            Some(new) => {
+                let count = say::at_most(count, self.room);
+                new.write(&self.room[..count]).map_err(Failure::New)
+            }
             None => Ok(()),
         }
     }
@@ -139,13 +136,13 @@ impl<'r, 'w> Windows<'r, 'w> {
     }
 }
 
-// Copies all that is left of what is read.
+// Copies all that is left of what is read. How much that is only the system knows, and a loop without an end needs the handle Wait, which
+// no function here has: so the turns are counted.
 pub fn copy(from: &Source, to: &File, room: &mut [u8]) -> Result<(), Failure> {
     let mut to = to;
     for _ in 0..u64::MAX {
         let held = from.fill(room, 0).map_err(Failure::Reel)?;
-        let count = say::at_most(held.count, room);
-        to.write_all(&room[..count]).map_err(Failure::New)?;
+        to.write_all(&room[..held.count]).map_err(Failure::New)?;
         if held.is_last {
             return Ok(());
         }

@@ -13,15 +13,15 @@ use Rattle.size.specs.Refusal.{number_of}
 use Rattle.cells.specs.Change.{Added}
 use Rattle.chain.specs.Solve.{Solved, none, one, several}
 use Rattle.chain.specs.Settled.{both_added, settled_fill, some_fill}
-use Rattle.classes.specs.Unfilled.{refusal_of}
-use Rattle.classes.specs.declared.Unfilled.{Unfilled}
+use Rattle.size.specs.Unclear.{refusal_of}
+use Rattle.size.specs.declared.Unclear.{Unclear}
 use Rattle.promise.specs.Answer.{done, refused}
 use Rattle.promise.specs.Calls.{Admitted, TileLength, Looked, Has, FillTold, has_lines}
 use Rattle.promise.specs.Admit.{admitted_well, slope_of_lem}
 
 module _ (kind : Kind) (p l : ℕ) (b c : Line) (X Y : ℕ → ℕ) (x : List ℕ) (a : Admitted kind p l (TileLength p x) size.well) (h : Has p b × Has p c) where
   -- what the chain told of the tile's sums
-  abbrev pub Told : Result Unit Unfilled → Type 0
+  abbrev pub Told : Result Unit Unclear → Type 0
   Told said = Solved p l b c (sum p 1 (cell p x)) (sum p l (cell p x)) X Y said
 
   -- there is one filling, and both lines' changes are added; there is none; or there are several
@@ -32,7 +32,7 @@ module _ (kind : Kind) (p l : ℕ) (b c : Line) (X Y : ℕ → ℕ) (x : List �
       (settled_fill p l b c _ _ x z (admitted_well a).2 (λ t q. refl) (λ t q. refl)
       (both_added p l b c _ _ X Y x y z (omega arith) (omega arith) s first second ey ez))) refl)
 
-  pub ends_unfilled : {why : Unfilled} → Told (Err why) → FillTold kind p l x b c (refused (number_of (refusal_of why))) x
+  pub ends_unfilled : {why : Unclear} → Told (Err why) → FillTold kind p l x b c (refused (number_of (refusal_of why))) x
   ends_unfilled (none f) = has_lines a h.0 h.1 (Looked.none (λ y g. f ((some_fill p l b c x (admitted_well a).2).1 (y, g))))
   ends_unfilled (several unsure s) =
       let y = (some_fill p l b c x (admitted_well a).2).0 s in

@@ -11,7 +11,8 @@ use code::{Kind, Line};
 use promise::{has_both, judge_tile};
 use size::Refusal;
 
-// Fills one or two flagged lines, whatever bytes they hold. One line is named twice.
+// Fills one or two flagged lines, whatever bytes they hold. One line is named twice. (Its parameters are those of `cf_fill`, and
+// docs/PROMISES.md names the call by them.)
 pub fn fill(
     kind: Kind,
     p: usize,

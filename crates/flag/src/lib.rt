@@ -1,5 +1,5 @@
 // A line by its number, and a flag: a line that the scanner lost, or none. On a reel and in C both stand as numbers; here a flag is an
-// `Option<Line>`.
+// `Option<Line>`. (Functions, and no `From`: `Line` and `Option` are other crates' types, and the numbers are known in this crate alone.)
 #![tactic(auto)]
 
 ghost use Rattle.std.specs.Prelude.{◌≡◌, Some};
@@ -8,7 +8,7 @@ ghost use Rattle.flag.specs.Flag.{line_of, flag_of, flag_number, Short};
 use code::Line;
 
 // The number that stands for no line.
-const NONE: usize = 0xFFFF;
+pub const NONE: usize = 0xFFFF;
 
 // The first number that stands for a column.
 const COLUMNS: usize = 0x8000;
@@ -38,10 +38,7 @@ pub fn number(flag: Option<Line>) -> usize
     requires { Short flag }
     ensures { result ≡ flag_number flag }
 {
-    match flag {
-        None => NONE,
-        Some(line) => line_number(line),
-    }
+    flag.map_or(NONE, line_number)
 }
 
 // The number of a line.

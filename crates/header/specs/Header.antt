@@ -62,7 +62,8 @@ pub record HeaderAt (reel : List ℕ) (at : ℕ) (h : Header) : Type 0 where
   pub first : h.first ≡ flag_at h.mark reel at 10
   pub second : h.second ≡ flag_at h.mark reel at 12
 
--- SPEC 7.2 and 7.5: what a record may carry: the flag of a line, if it is a flagged one and a tile of its size has the line; and always none
+-- SPEC 7.2 and 7.5: what a record may carry: the flag of a line, if it is a flagged one and a tile of its size has the line; and always
+-- none
 abbrev pub LineCarried : Mark → ℕ → Line → Type 0
 LineCarried Plain p a = ⊥
 LineCarried Flagged p a = Has p a

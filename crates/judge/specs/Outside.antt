@@ -1,9 +1,11 @@
 -- How two tiles are compared outside two lines: each column in which some row differs gets a mark, the rows that are named left out, and then
 -- the columns that are named are passed over. Assumes nothing.
-use Rattle.std.specs.Prelude.{◌≡◌, ◌⊎◌, ◌↔◌, List, ℕ, ◌+◌, ◌-◌, ◌*◌, ◌≤◌, ◌<◌, replicate}
+use Rattle.std.specs.Prelude.{◌≡◌, ◌⊎◌, ◌↔◌, List, ℕ, ◌+◌, ◌-◌, ◌*◌, ◌≤◌, ◌<◌, replicate, Bool, true, false, not, Option, Some, None, MatchOption}
 use Rattle.std.proofs.Common.{sym, ap, ◌∙◌, inl, inr, ⊎_elim, arith, below_more}
 use Rattle.code.specs.Tile.{tile_length, cell, On, EqualOutsideBoth}
 use Rattle.code.specs.Place.{cell_in, place_is}
+use Rattle.std.specs.Option.{is_some}
+use Rattle.code.specs.Says.{Says}
 use Rattle.code.specs.Held.{held, zeros_held}
 use Rattle.code.specs.declared.Line.{Line}
 use Rattle.code.specs.declared.Line.TheVariants.{Row, Column}
@@ -75,3 +77,21 @@ module _ {p : ℕ} {x y : List ℕ} {a b : Line} where
       (λ e. (r.clear j hj).0 e i hi (⊎_elim (λ q. off ((on_is a i j).1 (inl q))) (λ q. off_other ((on_is b i j).1 (inl q)))))
       (λ named. absurd (⊎_elim (λ q. off ((on_is a i j).1 (inr q))) (λ q. off_other ((on_is b i j).1 (inr q))) named))
       (columns j hj)
+
+  -- and where a column with a mark is neither a nor b, they do not
+  pub marks_differ : {m : List ℕ} → RowsMarked p x y a b (p - 1) m → (j : ℕ) → j < p - 1 → (held m j ≡ 0 → ⊥) → (OneOf (Column j) a b → ⊥)
+      → EqualOutsideBoth p a b x y → ⊥
+  marks_differ r j hj marked off equal = marked ((r.clear j hj).1 (λ i hi kept.
+      equal i j hi hj (λ o. ⊎_elim (λ q. kept (inl q)) (λ q. off (inl q)) ((on_is a i j).0 o))
+      (λ o. ⊎_elim (λ q. kept (inr q)) (λ q. off (inr q)) ((on_is b i j).0 o))))
+
+  -- what the search for such a column answers says whether they agree
+  pub marks_told : {m : List ℕ} (told : Bool) (found : Option ℕ) → RowsMarked p x y a b (p - 1) m → is_some found ≡ not told
+      → MatchOption found ((k : ℕ) → 0 ≤ k → k < p - 1 → (held m k ≡ 0) ⊎ (OneOf (Column k) a b))
+      (λ i. (0 ≤ i) × (i < p - 1) × ((held m i ≡ 0 → ⊥) × (OneOf (Column i) a b → ⊥))
+      × ((k : ℕ) → 0 ≤ k → k < i → (held m k ≡ 0) ⊎ (OneOf (Column k) a b)))
+      → Says told (EqualOutsideBoth p a b x y)
+  marks_told {m} true None r e none = marks_agree r (λ j h. none j (omega arith) h)
+  marks_told {m} false None r e none = absurd cc
+  marks_told {m} true (Some i) r e some = absurd cc
+  marks_told {m} false (Some i) r e some = marks_differ r i some.1 some.2.0 some.2.1

@@ -28,7 +28,8 @@ fn judge_lengths(p: usize, l: usize, scan: usize, restored: usize) -> Result<(),
     }
 }
 
-// Accepts a restored tile that is good and differs from the scan on the named lines alone. To name one line, name it twice.
+// Accepts a restored tile that is good and differs from the scan on the named lines alone. To name one line, name it twice. (Its parameters
+// are those of `cf_judge`, and docs/PROMISES.md names the call by them.)
 pub fn judge(
     p: usize,
     l: usize,

@@ -1,12 +1,12 @@
 // Whether two tiles agree outside two lines.
-ghost use Rattle.std.specs.Prelude.{◌≡◌, ◌+◌, ◌-◌, ◌≤◌, length};
+ghost use Rattle.std.specs.Prelude.{◌+◌, ◌-◌, ◌≤◌, length};
 ghost use Rattle.code.specs.Tile.{EqualOutsideBoth};
 ghost use Rattle.code.specs.Says.{Says};
 ghost use Rattle.judge.specs.Outside.{TwoTiles, RowMarked, OneOf, RowsMarked};
 
 use code::Line;
 
-// Do two tiles agree in every cell on neither of two lines?
+// Do two tiles agree in every cell on neither of two lines? (The two lines stand apart, as in the judge's call and its promise, JudgeTold.)
 pub(crate) fn agree_outside(
     p: usize,
     scan: &[u8],
@@ -19,16 +19,14 @@ pub(crate) fn agree_outside(
 {
     let mut marks = [0u8; 257];
     mark_columns(p, scan, restored, first, second, &mut marks);
-    for j in 0..p - 1 {
-        if marks[j] != 0 && !is_one_of(Line::Column(j), first, second) {
-            return false;
-        }
-    }
-    true
+    (0..p - 1)
+        .find(|j| marks[*j] != 0 && !is_one_of(Line::Column(*j), first, second))
+        .is_none()
 }
 
 // Marks each column in which some row that is neither of the two lines differs; the others are 0. (The tiles are walked row by row, as they
-// lie in memory, and all columns of a row are compared at once.)
+// lie in memory, and all columns of a row are compared at once. A mark is a byte and no bool, which would be no plainer: what is proved of
+// arrays speaks of sums, of changes and of marks by one word, `held`, and that is of bytes.)
 fn mark_columns(
     p: usize,
     scan: &[u8],

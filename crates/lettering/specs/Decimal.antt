@@ -1,5 +1,5 @@
--- Laws of a number's decimal digits: it is what `io::decimal` makes, its value is the number, it has no leading zero, and 20 digits are enough
--- for every number of 64 bits. All of them go by the one law of induction `by_digits`. Assumes nothing.
+-- Laws of a number's decimal digits: it is what `io::decimal` makes, its value is the number, it has no leading zero, and 20 digits are
+-- enough for every number of 64 bits. All of them go by the one law of induction `by_digits`. Assumes nothing.
 use Rattle.std.specs.Prelude.{◌≡◌, Bool, true, false, List, [], ◌∷◌, ◌++◌, ltb, length, take, get_or}
 use Rattle.std.proofs.Math.Path.{refl}
 use Rattle.std.proofs.Common.{sym, ap, ◌∙◌, pow-suc, arith, ltb-true, ltb-false, lt-ltb, length-append}
@@ -11,8 +11,8 @@ use Rattle.lettering.specs.Line.{digit, digits_up_to, decimal}
 
 -- ---- induction
 
--- what holds of every number below 10 and its one digit, and, where it holds of n / 10 and its digits, of n and those digits with the last one
--- behind them, holds of every number and its digits
+-- what holds of every number below 10 and its one digit, and, where it holds of n / 10 and its digits, of n and those digits with the last
+-- one behind them, holds of every number and its digits
 module _ (P : ℕ → List ℕ → Type 0) (one : (n : ℕ) → n < 10 → P n (digit n ∷ []))
     (longer : (n : ℕ) (front : List ℕ) → 10 ≤ n → P (n / 10) front → P n (front ++ (digit (n % 10) ∷ []))) where
   step : (more n : ℕ) → P (n / 10) (digits_up_to more (n / 10)) → (small : Bool) → ltb n 10 ≡ small

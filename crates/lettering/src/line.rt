@@ -8,22 +8,31 @@ use promise::{Repaired, Restored};
 use size::Refusal;
 use std::marker::Model;
 
-// The most bytes that a line has: five numbers of at most 20 digits, the word `cell`, the spaces between them and the LF make 110.
+// The most bytes that a line has. Five numbers of at most 20 digits, the word `cell`, the spaces between them and the LF make 110; the
+// bound that `text` promises is the next multiple of eight.
 const MOST: usize = 112;
 
-// A line: the first `length` of its bytes.
-#[derive(Clone, Drop)]
+// A line: the first `length` of its bytes. Those behind are 0, so that a line is its text and nothing else. (The kit's `ArrayVec` takes
+// words by a call that answers an error where there is no room: here the contracts say that there is.)
+#[derive(Clone, Copy)]
 pub struct Line {
     bytes: [u8; MOST],
     length: usize,
 }
 
 impl Model for Line {
+    ghost use Rattle.std.specs.Prelude.{List, ℕ, take};
+    ghost use Rattle.lettering.specs.Blank.{BlankBehind, padded, count, padded_back, text_long};
+
     ghost Value = { List ℕ };
 
     ghost view = { λ line. take line.length line.bytes };
 
-    ghost invariant = { λ line. line.length ≤ 112 };
+    ghost invariant = { λ line. BlankBehind line.length line.bytes };
+
+    ghost inverse = { λ text. record { bytes = padded text; length = count text } };
+
+    ghost inverse_ok = { λ line h. rw (padded_back line.length line.bytes h, text_long line.length line.bytes h) };
 }
 
 impl Line {
@@ -57,16 +66,13 @@ impl Line {
         self
     }
 
-    // The line with a number behind what it has, and then a sign: a space, or the LF. A `write!` would answer an error where there is no
-    // room: here the contract says that there is.
+    // The line with a number behind what it has, and then a sign: a space, or the LF.
     fn with_number(self, n: usize, sign: u8) -> Line
         requires { length self + 21 ≤ 112 }
         ensures is { result ≡ self ++ decimal n ++ (sign ∷ []) }
         ensures length_bound { length result ≤ length self + 21 }
     {
-        let mut digits = [0u8; 20];
-        let count = io::decimal(n as u64, &mut digits);
-        self.with_words(&digits[..count]).with_words(&[sign])
+        self.with_words(digits(n).text()).with_words(&[sign])
     }
 
     // The line with what was found in a tile behind what it has, and the LF.
@@ -100,6 +106,16 @@ impl Line {
                 .with_number(size::number(refusal), b'\n'),
         }
     }
+}
+
+// A number in decimal, and nothing more. A `write!` would answer an error where there is no room: here the contract says that there is.
+pub fn digits(n: usize) -> Line
+    ensures is { result ≡ decimal n }
+    ensures length_bound { length result ≤ 20 }
+{
+    let mut digits = [0u8; 20];
+    let count = io::decimal(n as u64, &mut digits);
+    Line::new().with_words(&digits[..count])
 }
 
 // The line of a tile: its number, size and slope, and what comes of restoring it.

@@ -23,7 +23,8 @@ fn room() -> [u8; 65537]
     [0; 65537]
 }
 
-// Reads the input until it ends, and answers how many bytes it has; a read may fail, or there may be no room left.
+// Reads the input until it ends, and answers how many bytes it has; a read may fail, or there may be no room left. (A loop by hand: how
+// much a read brings is the system's to say, `read_exact` would fail where the input is shorter, and `read_to_end` wants a heap.)
 fn read(mut input: Stdin, room: &mut [u8]) -> Result<usize, Unread>
     ensures { IfOk result (λ n. n ≤ length room.new) }
 {
@@ -45,7 +46,7 @@ fn complain(words: &[u8]) {
     io::write_all(STANDARD_ERROR, words);
 }
 
-// Says so where something was not written.
+// Says so where something was not written, as `listing::print` and `io::write_all` answer it.
 fn report(is_written: bool) {
     if !is_written {
         complain(b"counterfrost-list: the listing could not be written\n");

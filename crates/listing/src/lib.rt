@@ -57,12 +57,13 @@ fn closing_line(reel: &[u8], left: &[u8], found: Found, tiles: usize) -> Line
     line::stopped_line(refusal, reel.len() - left.len() + at)
 }
 
-// Writes a line, and answers whether all of it was written.
+// Writes a line, and answers whether all of it was written. (A bool, as `io::write_all` gives it: it says no reason.)
 fn write(line: Line) -> bool {
     io::write_all(STANDARD_OUTPUT, line.text())
 }
 
-// Lists a reel, with room for a copy of the largest tile.
+// Lists a reel, with room for a copy of the largest tile. (The walk is the house's own, by `reel::next` and `reel::rest` on what is left:
+// what stands next is in the reel's bytes, the tiles are counted for the closing line, and a line that is not written ends it.)
 fn print_with(reel: &[u8], copy: &mut [u8]) -> bool
     requires { 65536 ≤ length copy.old }
 {
@@ -81,7 +82,8 @@ fn print_with(reel: &[u8], copy: &mut [u8]) -> bool
     }
 }
 
-// Lists a reel on standard output, and answers whether all of it was written. A write that fails ends the listing.
+// Lists a reel on standard output, and answers whether all of it was written. A write that fails ends the listing. (This is public, and
+// takes no HostRuntime: standard output by way of one, and a `Result` of it, would ask more of its callers.)
 pub fn print(reel: &[u8]) -> bool {
     let mut copy = io::large_buffer();
     print_with(reel, &mut copy)

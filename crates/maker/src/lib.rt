@@ -1,41 +1,50 @@
 // A new reel of texts: each becomes the good tile that has it, in a record of its own.
 #![tactic(auto)]
 
-ghost use Rattle.std.specs.Prelude.{◌≡◌, length};
+ghost use Rattle.std.specs.Prelude.{IfOk};
+ghost use Rattle.residue.specs.Size.{Size};
 
 use code::Kind;
+use files::asked::Asked;
 use files::held::Word;
 use files::input::Input;
-use files::new::NewReel;
+use files::new::{NewReel, Target};
 use files::told::Told;
-use files::{asked, guide, input, measure, new, say, streams};
+use files::{asked, guide, input, new, say, streams};
 use header::{Header, Mark};
 use size::Refusal;
 use words::Verb;
 
-// What the words ask for: the size and the slope of the tiles, the number of the first one, and how many texts there are.
+// What the words ask for: the size and the slope of the tiles, which are taken, the number of the first one, and how many texts there are.
 #[derive(Clone, Copy)]
 struct Plan {
     p: usize,
     l: usize,
     first: usize,
     texts: usize,
+    ghost size: { Size p },
 }
 
 // The plain words before the texts.
 const BEFORE: usize = 4;
 
 // Writes a reel of texts.
-pub fn write(rt: &HostRuntime, plain: usize, force: bool) -> Result<(), Told> {
+pub fn write(rt: &HostRuntime, asked: Asked) -> Result<(), Told> {
+    let Asked { plain, force, .. } = asked;
     let new = asked::word(rt, 0)?;
     if plain <= BEFORE {
         return Err(guide::too_few(rt, Verb::Write));
     }
     let plan = Plan::asked(rt, plain - BEFORE)?;
-    new::made(rt, None, new.bytes(), force, |new| plan.write(rt, new))
+    let target = Target {
+        name: new.bytes(),
+        force,
+    };
+    new::made(rt, None, target, |new| plan.write(rt, new))
 }
 
-// The slope that the third plain word says: the house slope of p, or a number. Where p is no size it does not matter which.
+// The slope that the third plain word says: the house slope of p, or a number. Where p is no size it has none, and 0 is as good as any:
+// `judged` refuses p before it looks at the slope.
 fn slope(rt: &HostRuntime, p: usize) -> Result<usize, Told> {
     let word = asked::word(rt, 2)?;
     if word.bytes() != b"house".as_slice() {
@@ -45,61 +54,49 @@ fn slope(rt: &HostRuntime, p: usize) -> Result<usize, Told> {
 }
 
 // Judges the size and the slope. If they are refused, that is said.
-fn judged(rt: &HostRuntime, p: usize, l: usize) -> Result<(), Told> {
-    let Err(no) = size::judge(Kind::New, p, l) else {
-        return Ok(());
-    };
-    say::name(rt);
-    say::words(rt, b"refused ");
-    say::number(rt, size::number(no));
-    match no {
-        Refusal::BadSize => {
-            say::words(rt, b": no size is ");
-            say::number(rt, p);
-        }
-        _ => {
-            say::words(rt, b": at this size no slope is ");
-            say::number(rt, l);
-        }
+#[tactic(auto, using(crate::specs::Plan::taken_size))]
+fn judged(rt: &HostRuntime, p: usize, l: usize) -> Result<(), Told>
+    ensures { IfOk result (λ _. Size p) }
+{
+    match size::judge(Kind::New, p, l) {
+        Ok(()) => Ok(()),
+        Err(refusal) => Err(not_taken(rt, p, l, refusal)),
     }
-    say::words(rt, b"\n");
-    Err(guide::goes(rt, Verb::Write))
+}
+
+// Says why the size or the slope is refused.
+fn not_taken(rt: &HostRuntime, p: usize, l: usize, refusal: Refusal) -> Told {
+    let number = size::number(refusal);
+    let _told = match refusal {
+        Refusal::BadSize => say::line(rt, format_args!("refused {number}: no size is {p}")),
+        _ => say::line(
+            rt,
+            format_args!("refused {number}: at this size no slope is {l}"),
+        ),
+    };
+    guide::goes(rt, Verb::Write)
 }
 
 // Says that a tile would have a number that is too large.
 fn too_many(rt: &HostRuntime) -> Told {
-    say::line(rt, b"the last tile's number is above 4294967295");
+    let _told = say::line(
+        rt,
+        format_args!("the last tile's number is above {}", words::LARGEST),
+    );
     guide::goes(rt, Verb::Write)
 }
 
 // Says that a text is refused.
-fn refused(rt: &HostRuntime, name: &[u8], no: Refusal) -> Told {
-    say::name(rt);
-    say::words(rt, name);
-    say::words(rt, b": refused ");
-    say::number(rt, size::number(no));
-    say::words(rt, b"\n");
-    Told
+fn refused(rt: &HostRuntime, name: &[u8], refusal: Refusal) -> Told {
+    say::about(
+        rt,
+        name,
+        format_args!(": refused {}", size::number(refusal)),
+    )
 }
 
-// Says how long a text has to be.
-fn wrong_length(rt: &HostRuntime, name: &[u8], p: usize) -> Told {
-    say::name(rt);
-    say::words(rt, name);
-    say::words(rt, b": refused 3: a text has ");
-    say::number(rt, measure::text(p));
-    say::words(rt, b" bytes at size ");
-    say::number(rt, p);
-    say::words(rt, b"\n");
-    Told
-}
-
-// Room for the largest record without flags, and a little more.
-fn record_room() -> [u8; 65552]
-    ensures { 65552 ≡ length result }
-{
-    [0; 65552]
-}
+// The bytes of the largest record without flags, and a few more.
+const RECORD: usize = 65552;
 
 impl Plan {
     fn asked(rt: &HostRuntime, texts: usize) -> Result<Plan, Told> {
@@ -117,13 +114,13 @@ impl Plan {
     fn write(&self, rt: &HostRuntime, new: &NewReel) -> Result<(), Told> {
         let mut text = io::large_buffer();
         let mut tile = io::large_buffer();
-        let mut record = record_room();
+        let mut record = [0; RECORD];
         for k in 0..self.texts {
             let name = asked::word(rt, k.saturating_add(BEFORE))?;
             let text = self.text(rt, k, &name, &mut text)?;
             let tile = self.tile(rt, &name, text, &mut tile)?;
-            let length = self.record(rt, k, &name, tile, &mut record)?;
-            new.write(&record, length)
+            let record = self.record(rt, k, &name, tile, &mut record)?;
+            new.write(record)
                 .map_err(|error| say::failed(rt, new.part.bytes(), error))?;
         }
         Ok(())
@@ -142,36 +139,50 @@ impl Plan {
             return Err(input::failed(rt, name, streams::closed()));
         }
         let text = Input::open(rt, name)?.read(rt, room)?;
-        if text.len() != measure::text(self.p) {
-            return Err(wrong_length(rt, name, self.p));
+        if text.len() != promise::text_length(self.p) {
+            return Err(self.wrong_length(rt, name));
         }
         Ok(text)
     }
 
+    // Says how long a text has to be.
+    fn wrong_length(&self, rt: &HostRuntime, name: &[u8]) -> Told {
+        let number = size::number(Refusal::BadLength);
+        let length = promise::text_length(self.p);
+        let p = self.p;
+        say::about(
+            rt,
+            name,
+            format_args!(": refused {number}: a text has {length} bytes at size {p}"),
+        )
+    }
+
     // Makes the tile of a text.
+    #[tactic(auto, using(crate::specs::Plan::tile_fits))]
     fn tile<'r>(
         &self,
         rt: &HostRuntime,
         name: &Word,
         text: &[u8],
-        room: &'r mut [u8],
+        room: &'r mut [u8; 65536],
     ) -> Result<&'r [u8], Told> {
-        let count = say::at_most(measure::tile(self.p), room);
-        match writer::write(Kind::New, self.p, self.l, text, &mut room[..count]) {
-            Ok(()) => Ok(&room[..count]),
-            Err(no) => Err(refused(rt, name.bytes(), no)),
+        let room = &mut room[..promise::tile_length(self.p)];
+        match writer::write(Kind::New, self.p, self.l, text, room) {
+            Ok(()) => Ok(room),
+            Err(refusal) => Err(refused(rt, name.bytes(), refusal)),
         }
     }
 
-    // Lays the record of the k-th tile, and answers its length.
-    fn record(
+    // Lays the record of the k-th tile.
+    #[tactic(auto, using(crate::specs::Plan::laid_within))]
+    fn record<'r>(
         &self,
         rt: &HostRuntime,
         k: usize,
         name: &Word,
         tile: &[u8],
-        room: &mut [u8],
-    ) -> Result<usize, Told> {
+        room: &'r mut [u8],
+    ) -> Result<&'r [u8], Told> {
         let Ok(number) = u32::try_from(self.first.saturating_add(k)) else {
             return Err(too_many(rt));
         };
@@ -183,7 +194,10 @@ impl Plan {
             first: None,
             second: None,
         };
-        printer::lay(header, tile, room).map_err(|no| refused(rt, name.bytes(), no))
+        match printer::lay(header, tile, room) {
+            Ok(length) => Ok(&room[..length]),
+            Err(refusal) => Err(refused(rt, name.bytes(), refusal)),
+        }
     }
 }
 

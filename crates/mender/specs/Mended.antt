@@ -22,10 +22,10 @@ use Rattle.cells.specs.Change.{Added, changed_good, changed, changed_added, chan
 use Rattle.walk.specs.Along.{Shifted}
 use Rattle.search.specs.Hurt as hurt
 use Rattle.search.specs.Hurt.{Once}
-use Rattle.search.specs.declared.hurt.Unclear.{Unclear}
-use Rattle.search.specs.declared.hurt.Unclear.TheVariants as unclear
+use Rattle.size.specs.declared.Unclear.{Unclear}
+use Rattle.size.specs.declared.Unclear.TheVariants as unclear
 use Rattle.size.specs.Refusal.{number_of}
-use Rattle.search.specs.Unclear.{refusal_of}
+use Rattle.size.specs.Unclear.{refusal_of}
 use Rattle.promise.specs.Answer.{Said, clean, refused}
 use Rattle.promise.specs.Calls.{Admitted, TileLength, BothLengths, Looked, Explains, ByLine, Named, RepairTold, is_good, is_hurt, RecoverTold, Has}
 use Rattle.promise.specs.Admit.{admitted_some, slope_of_lem}

@@ -1,5 +1,6 @@
 // One hurt line of a tile: repaired, named, or put right while the text is read. It is looked for in one place, `search::hurt`, and what is
-// said of it is said in one place too.
+// said of it is said in one place too. (The array of the change is lent beside the answer that tells of its line: no array is handed up,
+// for the stack's sake, as docs/DECISIONS.md says under "What each call holds on the stack".)
 #![tactic(auto)]
 
 ghost use Rattle.std.specs.Prelude.{◌≤◌, Ok};
@@ -41,8 +42,8 @@ pub fn inspect(kind: Kind, p: usize, l: usize, scan: &[u8]) -> Result<Repaired, 
     Ok(say(p, found, &change))
 }
 
-// Reads the text of the tile that repair would make of a scan, leaves the scan as it is, and names what is hurt. The change goes to the text
-// alone; where nothing can be mended the text stays.
+// Reads the text of the tile that repair would make of a scan, leaves the scan as it is, and names what is hurt. The change goes to the
+// text alone; where nothing can be mended the text stays.
 pub fn recover(
     kind: Kind,
     p: usize,
@@ -73,7 +74,7 @@ fn say(p: usize, hurt: Option<Line>, change: &[u8; 257]) -> Repaired
     }
 }
 
-// The name of a change in a line: where it has one byte the cell of this byte, where it has more the line.
+// The name of a change in a line: where it has one byte the cell of this byte, where it has more the line. A change of no byte is `Clean`.
 fn name(p: usize, line: Line, change: &[u8; 257]) -> Repaired
     requires { (2 ≤ p) × (p ≤ 257) }
     ensures { Called p line (held change.now) (repaired_said result) }

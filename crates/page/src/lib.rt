@@ -1,21 +1,22 @@
 // A page: words and numbers are put on it, one behind the other.
 #![tactic(auto)]
 
-ghost use Rattle.std.specs.Prelude.{◌≡◌, ◌-◌, length};
-ghost use Rattle.lettering.specs.Line.{decimal};
-ghost use Rattle.page.specs.Page.{Room, PutOn, right_aligned, filled, room};
+ghost use Rattle.std.specs.Prelude.{◌≡◌, ◌-◌, ◌≤◌, length};
 
-// The most digits that a number has.
-const DIGITS: usize = 20;
+use lettering::line;
 
 // A page: bytes that are lent to it, and how many of them are used.
 #[derive(Drop)]
 pub struct Page<'a> {
     bytes: &'a mut [u8],
     used: usize,
+    ghost within: { used ≤ length bytes.now },
 }
 
 impl<'a> Page<'a> {
+    ghost use Rattle.lettering.specs.Line.{decimal};
+    ghost use Rattle.page.specs.Page.{Room, PutOn, right_aligned, filled, room};
+
     // An empty page.
     pub fn new(bytes: &'a mut [u8]) -> Page<'a>
         ensures same_reference { result.bytes.ghost_name ≡ bytes.entry.ghost_name }
@@ -34,7 +35,6 @@ impl<'a> Page<'a> {
 
     // How many bytes are left.
     pub fn left(&self) -> usize
-        requires { Room 0 self.now }
         ensures { result ≡ length self.now.bytes.now - self.now.used }
     {
         self.bytes.len() - self.used
@@ -50,14 +50,12 @@ impl<'a> Page<'a> {
         self.used = end;
     }
 
-    // Puts a number on the page, in decimal. A `write!` would answer an error where there is no room: here the contract says that there is.
+    // Puts a number on the page, in decimal.
     pub fn put_number(&mut self, n: usize)
         requires { Room 20 self.old }
         ensures { PutOn 20 self.old (decimal n) self.new }
     {
-        let mut digits = [0u8; DIGITS];
-        let count = io::decimal(n as u64, &mut digits);
-        self.put(&digits[..count]);
+        self.put(line::digits(n).text());
     }
 
     // Puts a number on the page so that it ends 12 places further on, or where it ends if it has more digits.
@@ -65,11 +63,11 @@ impl<'a> Page<'a> {
         requires { Room 20 self.old }
         ensures { PutOn 20 self.old (right_aligned n) self.new }
     {
-        let mut digits = [0u8; DIGITS];
-        let count = io::decimal(n as u64, &mut digits);
+        let number = line::digits(n);
+        let digits = number.text();
         let blanks = [b' '; 12];
-        self.put(&blanks[count.min(12)..]);
-        self.put(&digits[..count]);
+        self.put(&blanks[digits.len().min(12)..]);
+        self.put(digits);
     }
 
     // Puts a form on the page, with the numbers for its @s, and 0 where they are not enough.

@@ -25,6 +25,10 @@ counted t (refused n) = record {
   doubtful = t.doubtful + cond (eqb n 8) 1 0;
 }
 
+-- the most squares of a drawing, and so of tiles: with 24 squares to a row, and 32 units to each row, its height is a number of 64 bits
+abbrev pub most_squares : ℕ
+most_squares = 10000000000000000000
+
 -- each count is below a number
 pub record Below (most : ℕ) (t : Tally) : Type 0 where
   pub tiles : t.tiles < most

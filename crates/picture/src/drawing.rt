@@ -1,11 +1,11 @@
 // The map of a reel as a drawing, in SVG: a square for each tile, 24 to a row, and before each row the offset of its first record. Shape
 // and colour both tell the state of a tile.
-ghost use Rattle.std.specs.Prelude.{◌≡◌, [], ◌∷◌, ◌≤◌, ◌<◌, length};
+ghost use Rattle.std.specs.Prelude.{◌≡◌, [], ◌∷◌, ◌+◌, ◌/◌, ◌≤◌, ◌<◌, length};
 ghost use Rattle.size.specs.Refusal.{number_of};
 ghost use Rattle.promise.specs.Answer.{repaired_said, restore_said, cell};
 ghost use Rattle.page.specs.Page.{Room, PutOn, filled, room};
 ghost use Rattle.picture.specs.Picture as picture;
-ghost use Rattle.picture.specs.Tally.{Below};
+ghost use Rattle.picture.specs.Tally.{Below, most_squares};
 
 use crate::signs::ROW;
 use crate::tally::Tally;
@@ -15,7 +15,8 @@ use page::Page;
 use promise::{Repaired, Restored};
 use size::Refusal;
 
-// Where a line of a tile is drawn, of 0 to `most`. A size below 3 and a line above 65535 do not occur.
+// Where a line of a tile is drawn, of 0 to `most`. A size below 3 and a line above 65535 do not occur; they are drawn at 0 and not
+// forbidden, since `picture::tile` asks nothing of a tile's size and lines, and its `tile_shown` says 0 for these.
 #[tactic(auto, unfolding(crate::specs::Picture::along))]
 fn along(most: usize, n: usize, p: usize) -> usize
     requires { most ≤ 25 }
@@ -51,11 +52,11 @@ fn bar(form: &[u8], n: usize, p: usize, page: &mut Page)
 
 // A question mark for what is doubtful, and a cross for what is refused by any other number.
 #[tactic(auto, using(page::specs::Then::at_most), unfolding(crate::specs::Picture::refused_shape))]
-fn refused(no: Refusal, page: &mut Page)
+fn refused(refusal: Refusal, page: &mut Page)
     requires { Room 114 page.old }
-    ensures { PutOn 114 page.old (picture.refused_shape (number_of no)) page.new }
+    ensures { PutOn 114 page.old (picture.refused_shape (number_of refusal)) page.new }
 {
-    match no {
+    match refusal {
         Refusal::Doubtful => page.put(
             b"<path class=\"d\" d=\"M0 0h28v28h-28z\"/><path class=\"x\" d=\"M9 11c0-7 10-7 10-1c0 4-5 4-5 7m0 3v3\"/>",
         ),
@@ -100,14 +101,14 @@ fn shape(p: usize, state: Result<Restored, Refusal>, page: &mut Page)
         Ok(Restored::Filled) => page.put(
             b"<path class=\"f\" d=\"M0 0h28v28h-28z\"/><path class=\"i\" d=\"M8 8h12v12h-12z\"/>",
         ),
-        Err(no) => refused(no, page),
+        Err(refusal) => refused(refusal, page),
     }
 }
 
 // The offset before a row, where the k-th square begins one.
 #[tactic(auto, using(page::specs::Then::at_most, page::specs::Then::nothing_on), unfolding(crate::specs::Picture::label))]
 fn label(k: usize, offset: usize, page: &mut Page)
-    requires k_bound { k ≤ 10000000000000000000 }
+    requires k_bound { k ≤ most_squares }
     requires in_bounds { Room 76 page.old }
     ensures { PutOn 76 page.old (picture.label k offset) page.new }
 {
@@ -122,7 +123,7 @@ fn label(k: usize, offset: usize, page: &mut Page)
 // The beginning of the k-th square: the offset, if it begins a row, its place, and a line without its LF as the title. There are 32 units
 // to a square, behind 96 for the offsets and below 16 of margin.
 fn begin(k: usize, offset: usize, line: &Line, page: &mut Page)
-    requires k_bound { k ≤ 10000000000000000000 }
+    requires k_bound { k ≤ most_squares }
     requires length_nonzero { 0 < length line.now }
     requires in_bounds { Room 270 page.old }
     ensures { PutOn 270 page.old (picture.begin k offset line.now) page.new }
@@ -137,7 +138,7 @@ fn begin(k: usize, offset: usize, line: &Line, page: &mut Page)
     page.put(b"</title>");
 }
 
-// The square of the k-th tile.
+// The square of the k-th tile. (Six values, each of which its picture shows: a struct of some would only be made for this call.)
 pub fn square(
     k: usize,
     offset: usize,
@@ -146,7 +147,7 @@ pub fn square(
     state: Result<Restored, Refusal>,
     page: &mut Page,
 )
-    requires k_bound { k ≤ 10000000000000000000 }
+    requires k_bound { k ≤ most_squares }
     requires length_nonzero { 0 < length line.now }
     requires in_bounds { Room 389 page.old }
     ensures { PutOn 389 page.old (picture.square k offset line.now p (restore_said state)) page.new }
@@ -158,26 +159,33 @@ pub fn square(
 
 // The dashed square where the reel stopped, behind k tiles.
 #[tactic(auto, using(crate::specs::Laws::stopped_some))]
-pub fn stop(k: usize, offset: usize, no: Refusal, page: &mut Page)
-    requires k_bound { k ≤ 10000000000000000000 }
+pub fn stop(k: usize, offset: usize, refusal: Refusal, page: &mut Page)
+    requires k_bound { k ≤ most_squares }
     requires in_bounds { Room 369 page.old }
-    ensures { PutOn 369 page.old (picture.stop k (number_of no) offset) page.new }
+    ensures { PutOn 369 page.old (picture.stop k (number_of refusal) offset) page.new }
 {
-    begin(k, offset, &line::stopped_line(no, offset), page);
+    begin(k, offset, &line::stopped_line(refusal, offset), page);
     page.put_form(
         b"<path class=\"s\" d=\"M1 1h26v26h-26z\"/><text class=\"n\" x=\"14\" y=\"18\">@</text></g>\n",
-        &[size::number(no)],
+        &[size::number(refusal)],
     );
+}
+
+// How many rows so many squares take.
+fn rows(squares: usize) -> usize
+    ensures { result ≡ (squares + 23) / 24 }
+{
+    squares.div_ceil(ROW)
 }
 
 // The drawing's first lines, for so many squares. The colours are light for what is well, and dark with white signs for what is not.
 #[tactic(auto, using(page::specs::Then::at_most), unfolding(crate::specs::Picture::head))]
 pub fn head(squares: usize, page: &mut Page)
-    requires squares_bound { squares ≤ 10000000000000000000 }
+    requires squares_bound { squares ≤ most_squares }
     requires in_bounds { Room 500 page.old }
     ensures { PutOn 500 page.old (picture.head squares) page.new }
 {
-    let height = 112 + 32 * ((squares + 23) / ROW);
+    let height = 112 + 32 * rows(squares);
     page.put_form(
         b"<svg xmlns=\"http://www.w3.org/2000/svg\" width=\"872\" height=\"@\" viewBox=\"0 0 872 @\">\n\
         <style>\
@@ -190,15 +198,16 @@ pub fn head(squares: usize, page: &mut Page)
     );
 }
 
-// The legend, four entries to a row, with how many squares have each shape, and the end of the drawing.
+// The legend, four entries to a row, with how many squares have each shape, and the end of the drawing. (One form and the numbers of its
+// @s in their order: `foot` of specs/Picture.antt says the same, byte by byte.)
 #[tactic(auto, using(page::specs::Then::at_most), unfolding(crate::specs::Picture::foot))]
 pub fn foot(tally: Tally, stops: usize, page: &mut Page)
-    requires below { Below 10000000000000000000 tally }
+    requires below { Below most_squares tally }
     requires stops_bound { stops ≤ 1 }
     requires in_bounds { Room 2000 page.old }
     ensures { PutOn 2000 page.old (picture.foot tally stops) page.new }
 {
-    let upper = 32 + 32 * ((tally.tiles + stops + 23) / ROW);
+    let upper = 32 + 32 * rows(tally.tiles + stops);
     let lower = upper + 36;
     let numbers = [
         upper,

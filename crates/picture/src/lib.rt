@@ -1,5 +1,5 @@
 // What is shown of a tile and of a reel: as lines of a listing, as squares of a drawing, or as signs for a terminal. Nothing is written
-// here: it is put on a page.
+// here: it is put on a page. Each function asks for room for the most that it puts, since nothing is refused for want of room.
 #![tactic(auto)]
 
 pub mod drawing;
@@ -11,7 +11,7 @@ ghost use Rattle.size.specs.Refusal.{number_of};
 ghost use Rattle.promise.specs.Answer.{restore_said};
 ghost use Rattle.page.specs.Page.{Puts, Room, PutOn};
 ghost use Rattle.picture.specs.Picture.{tile_shown, begun_shown, ended_shown, stopped_shown, corrected_line};
-ghost use Rattle.picture.specs.Tally.{Below};
+ghost use Rattle.picture.specs.Tally.{Below, most_squares};
 
 use lettering::line;
 use page::Page;
@@ -32,7 +32,8 @@ pub enum Form {
 // The most bytes that one tile takes in any form.
 pub const MOST: usize = 512;
 
-// Shows a tile, which is the k-th of its reel and whose record begins at an offset.
+// Shows a tile, which is the k-th of its reel and whose record begins at an offset. (The two numbers stay apart: one comes from the tally
+// and one from the window, and a struct of them would be made for a call, only to be taken apart where they are put.)
 #[tactic(auto, using(page::specs::Then::at_most, crate::specs::Laws::tile_some), unfolding(crate::specs::Picture::tile_shown))]
 pub fn tile(
     form: Form,
@@ -43,7 +44,7 @@ pub fn tile(
     page: &mut Page,
 )
     requires in_bounds { Room 512 page.old }
-    requires k_bound { k ≤ 10000000000000000000 }
+    requires k_bound { k ≤ most_squares }
     ensures { PutOn 512 page.old (tile_shown form k offset tile.number tile.p tile.l (restore_said state)) page.new }
 {
     match form {
@@ -56,11 +57,12 @@ pub fn tile(
     }
 }
 
-// What stands before the first tile: a drawing begins with its size.
+// What stands before the first tile: a drawing begins with its size. (This call and the three below answer how much is used, and take
+// bytes and no page: `Puts page.old 0 ..`, which they promise, says that what they put begins at the first byte.)
 #[tactic(auto, unfolding(crate::specs::Picture::begun_shown))]
 pub fn begun(form: Form, squares: usize, page: &mut [u8]) -> usize
     requires in_bounds { 4096 ≤ length page.old }
-    requires squares_bound { squares ≤ 10000000000000000000 }
+    requires squares_bound { squares ≤ most_squares }
     ensures { Puts page.old 0 (begun_shown form squares) result page.new }
 {
     let mut page = Page::new(page);
@@ -74,7 +76,7 @@ pub fn begun(form: Form, squares: usize, page: &mut [u8]) -> usize
 // What closes a reel that came to its end.
 pub fn ended(form: Form, tally: Tally, page: &mut [u8]) -> usize
     requires in_bounds { 4096 ≤ length page.old }
-    requires below { Below 10000000000000000000 tally }
+    requires below { Below most_squares tally }
     ensures { Puts page.old 0 (ended_shown form tally) result page.new }
 {
     let mut page = Page::new(page);
@@ -91,22 +93,22 @@ pub fn ended(form: Form, tally: Tally, page: &mut [u8]) -> usize
 }
 
 // What closes a reel that stopped at a refusal and an offset.
-pub fn stopped(form: Form, tally: Tally, no: Refusal, offset: usize, page: &mut [u8]) -> usize
+pub fn stopped(form: Form, tally: Tally, refusal: Refusal, offset: usize, page: &mut [u8]) -> usize
     requires in_bounds { 4096 ≤ length page.old }
-    requires below { Below 10000000000000000000 tally }
-    ensures { Puts page.old 0 (stopped_shown form tally (number_of no) offset) result page.new }
+    requires below { Below most_squares tally }
+    ensures { Puts page.old 0 (stopped_shown form tally (number_of refusal) offset) result page.new }
 {
     let mut page = Page::new(page);
     match form {
-        Form::Lines => page.put(line::stopped_line(no, offset).text()),
+        Form::Lines => page.put(line::stopped_line(refusal, offset).text()),
         Form::Squares => {
-            drawing::stop(tally.tiles, offset, no, &mut page);
+            drawing::stop(tally.tiles, offset, refusal, &mut page);
             drawing::foot(tally, 1, &mut page);
         }
         Form::Signs => {
-            signs::stop(tally.tiles, offset, no, &mut page);
+            signs::stop(tally.tiles, offset, refusal, &mut page);
             signs::legend(tally, &mut page);
-            page.put(line::stopped_line(no, offset).text());
+            page.put(line::stopped_line(refusal, offset).text());
         }
     }
     page.used()

@@ -62,12 +62,12 @@ pub fn sign(k: usize, offset: usize, state: Result<Restored, Refusal>, page: &mu
 }
 
 // What stands where the reel stopped, behind k tiles: the number of the refusal, and the LF.
-pub fn stop(k: usize, offset: usize, no: Refusal, page: &mut Page)
+pub fn stop(k: usize, offset: usize, refusal: Refusal, page: &mut Page)
     requires { Room 42 page.old }
-    ensures { PutOn 42 page.old (picture.stop_signed k (number_of no) offset) page.new }
+    ensures { PutOn 42 page.old (picture.stop_signed k (number_of refusal) offset) page.new }
 {
     row_begin(k, offset, page);
-    page.put_form(b" @\n", &[size::number(no)]);
+    page.put_form(b" @\n", &[size::number(refusal)]);
 }
 
 // The end of the last row of k tiles, if it is not full.

@@ -7,7 +7,7 @@ ghost use Rattle.picture.specs.Tally.{Below, no_tiles, counted};
 use promise::{Repaired, Restored};
 use size::Refusal;
 
-#[derive(Clone, Copy)]
+#[derive(Clone, Copy, Default)]
 pub struct Tally {
     pub tiles: usize,
     pub clean: usize,
@@ -24,16 +24,7 @@ impl Tally {
     pub fn new() -> Tally
         ensures { result ≡ no_tiles }
     {
-        Tally {
-            tiles: 0,
-            clean: 0,
-            cells: 0,
-            columns: 0,
-            rows: 0,
-            filled: 0,
-            refused: 0,
-            doubtful: 0,
-        }
+        Tally::default()
     }
 
     // The tally with one more tile.
@@ -56,17 +47,17 @@ impl Tally {
         new
     }
 
-    // Is each count below a number?
-    pub fn is_below(self, most: usize) -> bool
-        ensures { Says result (Below most self) }
+    // Is each count below a bound?
+    pub fn is_below(self, bound: usize) -> bool
+        ensures { Says result (Below bound self) }
     {
-        self.tiles < most
-            && self.clean < most
-            && self.cells < most
-            && self.columns < most
-            && self.rows < most
-            && self.filled < most
-            && self.refused < most
-            && self.doubtful < most
+        self.tiles < bound
+            && self.clean < bound
+            && self.cells < bound
+            && self.columns < bound
+            && self.rows < bound
+            && self.filled < bound
+            && self.refused < bound
+            && self.doubtful < bound
     }
 }

@@ -1,5 +1,5 @@
--- SPEC 10: that the worked tiles 1 to 10, and the others that stand with them in `Worked` of specs/, do what is claimed of them there. Assumes
--- nothing.
+-- SPEC 10: that the worked tiles 1 to 10, and the others that stand with them in `Worked` of specs/, do what is claimed of them there.
+-- Assumes nothing.
 use Rattle.std.specs.Prelude.{◌≡◌, refl, List, ℕ, ◌-◌, get_or}
 use Rattle.std.proofs.Common.{ap, arith}
 use Rattle.xor.specs.Xor.{◌⊕◌}

@@ -1,5 +1,5 @@
--- SPEC 10: that the worked recoveries 25 to 30 do what is claimed of them in `WorkedRecovered` of specs/. Each follows from what repair does
--- with the scan (`Worked`), and the text of the tile that it leaves, which is computed. Assumes nothing.
+-- SPEC 10: that the worked recoveries 25 to 30 do what is claimed of them in `WorkedRecovered` of specs/. Each follows from what repair
+-- does with the scan (`Worked`), and the text of the tile that it leaves, which is computed. Assumes nothing.
 use Rattle.std.specs.Prelude.{◌≡◌, refl, List, ℕ, ◌-◌, length, get_or}
 use Rattle.std.proofs.Common.{arith}
 use Rattle.code.specs.Tabulate.{tabulate}

@@ -4,11 +4,13 @@ use Rattle.std.specs.Prelude.{◌≡◌, refl, ℕ, ◌≤◌}
 use Rattle.std.proofs.Common.{arith}
 use Rattle.residue.specs.Size.{Size, Allowed}
 use Rattle.code.specs.Slope.{Slope}
+use Rattle.code.specs.Tile.{tile_length}
 use Rattle.code.specs.Kind.{Takes, taken_slope}
 use Rattle.code.specs.declared.Kind.{Kind}
 use Rattle.size.specs.Answer as size
 use Rattle.size.specs.Told.{judged_well, judged_no, judged_alike}
 use Rattle.size.specs.Once.{judged_told_once}
+use Rattle.walk.specs.Sums.{Shape}
 use Rattle.promise.specs.Calls.{Admitted, judged, no_length, admitted}
 
 -- where size, slope and lengths are right a call goes on ..
@@ -50,6 +52,17 @@ admitted_more f (no_length j d) = no_length j (λ m. d (f m))
 -- the slope that was admitted
 pub slope_of_lem : {k : Kind} {p l : ℕ} {Lengths : Type 0} → Admitted k p l Lengths size.well → Slope p l
 slope_of_lem {k} {p} {l} a = let w = admitted_well a in taken_slope k p l w.0 w.1
+
+-- a size and a slope that were admitted make a lattice
+pub lattice_of : {k : Kind} {p l : ℕ} {Lengths : Type 0} → Admitted k p l Lengths size.well → record { slope : Slope p l; high : p ≤ 257 }
+lattice_of a = record { slope = slope_of_lem a; high = (admitted_well a).0.high }
+
+-- .. and with a tile of that size the shape that is walked for its sums
+pub shape_of : {k : Kind} {p l n : ℕ} {Lengths : Type 0} → Admitted k p l Lengths size.well → n ≡ tile_length p → Shape p l n
+shape_of a size =
+    let w = admitted_well a in
+    let s = slope_of_lem a in
+    record { prime = w.0.prime; high = w.0.high; positive = omega (arith, s.low); slope = omega (arith, s.high); size = size }
 
 -- a call that is not admitted is refused with 1, 2 or 3
 pub admitted_low : {k : Kind} {p l n : ℕ} {Lengths : Type 0} → Admitted k p l Lengths (size.refused n) → n ≤ 3

@@ -16,8 +16,8 @@ use Rattle.promise.specs.Answer.{done}
 use Rattle.promise.specs.Calls.{WriteTold, Has}
 use Rattle.promise.specs.Admit.{admits, admitted_well, slope_of_lem}
 
--- WHAT THE CHECKS BUY: two different texts that were written at one size and slope give tiles that differ in a cell outside any two lines; where
--- the powers miss a remainder, outside any two rows and any two columns
+-- WHAT THE CHECKS BUY: two different texts that were written at one size and slope give tiles that differ in a cell outside any two lines;
+-- where the powers miss a remainder, outside any two rows and any two columns
 pub write_outside : {j k : Kind} {p l : ℕ} {text text' lent lent' x y : List ℕ} (a b : Line) → Sure p l a b
     → WriteTold j p l text lent done x → WriteTold k p l text' lent' done y → text ≢ text' → DifferOutside p a b x y
 write_outside {p = p} {l} {text} {text'} {x = x} {y} a b sure (WriteTold.writes h w) (WriteTold.writes g v) d =

@@ -97,8 +97,8 @@ pub record InspectTold (k : Kind) (p l : ℕ) (scan : List ℕ) (said : Said) : 
 abbrev pub Granted : Said → Type 0
 Granted s = (n : ℕ) → s ≡ refused n → ⊥
 
--- SPEC 5.7: RECOVER. What is said is what repair would say of the scan. If that is a refusal the text stays, and otherwise it becomes that of
--- the tile that repair would leave
+-- SPEC 5.7: RECOVER. What is said is what repair would say of the scan. If that is a refusal the text stays, and otherwise it becomes that
+-- of the tile that repair would leave
 pub data RecoverTold (k : Kind) (p l : ℕ) (scan text : List ℕ) : Said → List ℕ → Type 0 where
   refuses : {n : ℕ} → Admitted k p l (BothLengths p scan text) (size.refused n) → RecoverTold k p l scan text (refused n) text
   unrepaired : {n : ℕ} → Admitted k p l (BothLengths p scan text) size.well → InspectTold k p l scan (refused n)
@@ -121,8 +121,8 @@ pub data FillTold (k : Kind) (p l : ℕ) (tile : List ℕ) (a b : Line) : Said �
   has_lines : {said : Said} {new : List ℕ} → Admitted k p l (TileLength p tile) size.well → Has p a → Has p b
       → Looked (Fills p l a b tile) Done tile said new → FillTold k p l tile a b said new
 
--- SPEC 5.5: JUDGE, of a tile that was restored from a scan in the lines a and b. It is told no kind: the tiles are new ones. Refused 4 where
--- they do not have a named line, 10 where the restored tile is not good, 11 where it differs from the scan elsewhere; otherwise it is
+-- SPEC 5.5: JUDGE, of a tile that was restored from a scan in the lines a and b. It is told no kind: the tiles are new ones. Refused 4
+-- where they do not have a named line, 10 where the restored tile is not good, 11 where it differs from the scan elsewhere; otherwise it is
 -- accepted, which is told as done. Nothing is written
 pub data JudgeTold (p l : ℕ) (scan restored : List ℕ) (a b : Line) : Said → Type 0 where
   refuses : {n : ℕ} → Admitted New p l (TwoLengths p scan restored) (size.refused n) → JudgeTold p l scan restored a b (refused n)

@@ -1,5 +1,5 @@
--- Repair and fill carry a good tile through: where one is added to a tile, the answer is the same, and the tile that is left is the one that
--- would have been, with that good tile added. Assumes nothing.
+-- Repair and fill carry a good tile through: where one is added to a tile, the answer is the same, and the tile that is left is the one
+-- that would have been, with that good tile added. Assumes nothing.
 use Rattle.std.specs.Prelude.{◌≡◌, refl, List, ℕ, length}
 use Rattle.std.proofs.Common.{sym, ap, ◌∙◌}
 use Rattle.xor.specs.Xor.{◌⊕◌, xors, from}

@@ -1,6 +1,6 @@
 -- WHAT THE KIND AND THE SLOPE DECIDE (SPEC 2.5, 5.3 and 5.4): where a slope is allowed both kinds answer alike, and nothing is doubtful; at
--- every slope two rows, two columns and one line are sure; and where the powers of the slope miss a remainder no row with a column is filled.
--- Assumes nothing.
+-- every slope two rows, two columns and one line are sure; and where the powers of the slope miss a remainder no row with a column is
+-- filled. Assumes nothing.
 use Rattle.std.specs.Prelude.{◌≡◌, refl, ◌⊎◌, List, ℕ}
 use Rattle.std.proofs.Common.{inl, inr, ⊎_elim, arith}
 use Rattle.residue.specs.Power.{ReachesAll}

@@ -205,8 +205,8 @@ module _ (k : Kind) (p l : ℕ) (tile : List ℕ) (a b : Line) where
   fill_told_once c d x y t u =
       call_once (fill_call t) (fill_call u) (λ S. else_single (λ h. looked_single (λ z s t e f. e ∙ sym f)) (just_single (refused 4) tile))
 
--- judge: 4 where the tiles lack a line, 10 where the restored one is not good, 11 where it differs elsewhere, and else done. It is lent nothing
--- to write, so that the restored tile, as it was, stands for what is left
+-- judge: 4 where the tiles lack a line, 10 where the restored one is not good, 11 where it differs elsewhere, and else done. It is lent
+-- nothing to write, so that the restored tile, as it was, stands for what is left
 module _ (p l : ℕ) (scan restored : List ℕ) (a b : Line) where
   -- its own outcomes
   abbrev JudgeOwn : Said → List ℕ → Type 0

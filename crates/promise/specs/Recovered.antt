@@ -1,5 +1,5 @@
--- WHAT RECOVER AND INSPECT GIVE (SPEC 5.6 and 5.7), over the contracts of repair and read: recover says what repair says, and leaves the text that
--- read gives after repair of a copy; what was written comes back, though a line of it was hurt. Assumes nothing.
+-- WHAT RECOVER AND INSPECT GIVE (SPEC 5.6 and 5.7), over the contracts of repair and read: recover says what repair says, and leaves the
+-- text that read gives after repair of a copy; what was written comes back, though a line of it was hurt. Assumes nothing.
 use Rattle.std.specs.Prelude.{◌≡◌, refl, ◌⊎◌, ◌↔◌, List, ℕ, length}
 use Rattle.std.proofs.Common.{ap, ◌∙◌, inl, inr, ⊎_elim}
 use Rattle.residue.specs.Size.{Size, Allowed}

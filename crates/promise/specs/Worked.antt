@@ -1,7 +1,7 @@
 -- SPEC 10: the worked tiles 1 to 10 in one list, all claimed at once (tile 11, whose sheet stands above this crate, joins them in
--- `sheet/specs/Worked.antt`, and the old tiles 13 to 17 stand in `WorkedOld`). The tiles are at p 5, l 2, written row by row, and every claim
--- is of both kinds; each is decided by a test that is computed, and the laws that the test is right. That every claim holds is `Worked` of
--- proofs/. Assumes nothing.
+-- `sheet/specs/Worked.antt`, and the old tiles 13 to 17 stand in `WorkedOld`). The tiles are at p 5, l 2, written row by row, and every
+-- claim is of both kinds; each is decided by a test that is computed, and the laws that the test is right. That every claim holds is
+-- `Worked` of proofs/. Assumes nothing.
 use Rattle.std.specs.Prelude.{◌≡◌, refl, List, [], ◌∷◌, ℕ, ◌+◌, length}
 use Rattle.std.proofs.Common.{sym, ap, ◌∙◌, inr, arith}
 use Rattle.code.specs.Tile.{tile_length, Good, text_length, text_of, Writes}
@@ -116,8 +116,8 @@ pub data Case : Type 0 where
 abbrev pub Exactly : {Answer : Type 0} → (Answer → List ℕ → Type 0) → Answer → List ℕ → Type 0
 Exactly {Answer} R s x = R s x × ((t : Answer) (y : List ℕ) → R t y → (t ≡ s) × (y ≡ x))
 
--- what a case claims, of either kind. A tile is written whatever the lent tile held, and a tile that is not good is refused whatever the lent
--- text held
+-- what a case claims, of either kind. A tile is written whatever the lent tile held, and a tile that is not good is refused whatever the
+-- lent text held
 abbrev pub Claim : Case → Type 0
 Claim (writes text tile b) =
     ((k : Kind) (lent : List ℕ) → length lent ≡ tile_length 5 → Exactly (WriteTold k 5 2 text lent) done tile) × ((g : Good 5 2 tile) → g.common ≡ b)

@@ -1,5 +1,5 @@
--- SPEC 10: the worked judgements 18 to 24 in one list, all claimed at once. The scan is tile 9, at p 5 and l 2. Each claim is decided by a test
--- that is computed, and the laws that the test is right. Assumes nothing.
+-- SPEC 10: the worked judgements 18 to 24 in one list, all claimed at once. The scan is tile 9, at p 5 and l 2. Each claim is decided by a
+-- test that is computed, and the laws that the test is right. Assumes nothing.
 use Rattle.std.specs.Prelude.{◌≡◌, refl, List, [], ◌∷◌, ℕ, ◌+◌, ◌-◌, length, get_or}
 use Rattle.std.proofs.Common.{arith}
 use Rattle.xor.specs.Xor.{◌⊕◌}
@@ -20,8 +20,8 @@ use Rattle.promise.specs.Once.{judge_told_once}
 use Rattle.promise.specs.Decide.{Test, so, both, at_most, equal, good, not_good, outside, off, differing, Each, each, numbered}
 use Rattle.promise.specs.Worked.{zeros, tile_4, tile_9, filled_9}
 
--- a case: a restored tile, and two lines; it is accepted; or the second line is not there, or the tile is not good, or it is good and differs
--- in a cell, which is named
+-- a case: a restored tile, and two lines; it is accepted; or the second line is not there, or the tile is not good, or it is good and
+-- differs in a cell, which is named
 pub data Judging : Type 0 where
   accepted : List ℕ → Line → Line → Judging
   no_line : List ℕ → Line → Line → Judging

@@ -79,8 +79,8 @@ pub order_7_2 : Order 7 2 3
 unfolding order_is up_to
 order_7_2 = (order_is 7 2 3).shows tt
 
--- zeros and E both fill row 0 and column 0 of zeros; column 0 explains tile 14 by zeros, row 0 by E; no filling has tile 15, as the offset 1
--- shows, and a 1 in one cell is all that it has; E is good
+-- zeros and E both fill row 0 and column 0 of zeros; column 0 explains tile 14 by zeros, row 0 by E; no filling has tile 15, as the offset
+-- 1 shows, and a 1 in one cell is all that it has; E is good
 record Tested : Type 0 where
   by_zeros : Fills 7 2 (Row 0) (Column 0) zeros zeros
   by_e : Fills 7 2 (Row 0) (Column 0) zeros E

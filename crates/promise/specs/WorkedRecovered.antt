@@ -1,5 +1,5 @@
--- SPEC 10: the worked recoveries 25 to 31, all claimed at once but for the last, which is an old tile's. Each follows from what repair does with
--- the scan (`Worked`, `WorkedOld`), and the text of the tile that it leaves, which is computed. That the claims of 25 to 30 hold is
+-- SPEC 10: the worked recoveries 25 to 31, all claimed at once but for the last, which is an old tile's. Each follows from what repair does
+-- with the scan (`Worked`, `WorkedOld`), and the text of the tile that it leaves, which is computed. That the claims of 25 to 30 hold is
 -- `WorkedRecovered` of proofs/. Assumes nothing.
 use Rattle.std.specs.Prelude.{◌≡◌, refl, List, [], ◌∷◌, ℕ, length}
 use Rattle.std.proofs.Common.{arith}
@@ -29,7 +29,8 @@ text_8 = 1 ∷ 0 ∷ 0 ∷ 1 ∷ 0 ∷ 0 ∷ 0 ∷ 0 ∷ []
 pub data Recovery : Type 0 where
   recovery : List ℕ → Said → List ℕ → Recovery
 
--- what it claims, of either kind: recover, lent nines, says this and leaves this text, and nothing else; and inspect says this, and nothing else
+-- what it claims, of either kind: recover, lent nines, says this and leaves this text, and nothing else; and inspect says this, and nothing
+-- else
 abbrev pub Claim : Recovery → Type 0
 Claim (recovery scan said text) = (k : Kind)
     → Exactly (RecoverTold k 5 2 scan nines) said text × InspectTold k 5 2 scan said × ((t : Said) → InspectTold k 5 2 scan t → t ≡ said)

@@ -1,5 +1,6 @@
-// What the tile calls promise, in specs/; what they answer; and what is judged first in each. The calls themselves have rooms of their own,
-// and users find all of them in the crate `tile`.
+// What the tile calls promise, in specs/; what they answer; and what is judged first in each. The calls themselves stand in crates of their
+// own, and users find all of them in the crate `tile`. (Kind, p and l are passed one by one, since C's calls `cf_*` have them so, and
+// README.md, docs/PROMISES.md and the promises in specs/Calls.antt name the calls by them.)
 #![tactic(auto)]
 
 ghost use Rattle.std.specs.Prelude.{◌≡◌};
@@ -13,8 +14,8 @@ use code::{Kind, Line};
 use size::Refusal;
 use walk::index::number;
 
-// What repair finds, and puts right: nothing was hurt; one byte, by its row and its column; or two and more of a column or of a row. Inspect
-// and recover answer what repair would.
+// What repair finds, and puts right: nothing was hurt; one byte, by its row and its column; or two and more of a column or of a row.
+// Inspect and recover answer what repair would.
 #[derive(Clone, Copy, PartialEq, Eq)]
 pub enum Repaired {
     Clean,

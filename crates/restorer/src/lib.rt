@@ -8,7 +8,8 @@ use code::{Kind, Line};
 use promise::Restored;
 use size::Refusal;
 
-// Restores a tile by its flags. If just one of the two tells of a line, be it the second, that line is filled by itself.
+// Restores a tile by its flags. If just one of the two tells of a line, be it the second, that line is filled by itself. (Its parameters
+// are those of fill with a flag for each line, and docs/PROMISES.md names the call by them.)
 pub fn restore(
     kind: Kind,
     p: usize,

@@ -1,5 +1,5 @@
-// Answers in words and numbers on standard output, each with a space before it. A write that fails is not told: the comparison with `stdout`
-// then finds the text missing.
+// Answers in words and numbers on standard output, each with a space before it. A write that fails is not told: the comparison with
+// `stdout` then finds the text missing.
 use code::{Kind, Line};
 use promise::Repaired;
 use reel::Found;

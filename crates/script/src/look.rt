@@ -3,11 +3,19 @@ ghost use Rattle.std.specs.Prelude.{length};
 ghost use Rattle.walk.specs.Sums.{Shape};
 
 use crate::answer;
+use crate::question::Question;
 use code::Kind;
 use walk::sums::both_sums;
 
 // By the first letter of its name.
-pub fn look(rt: &HostRuntime, name: u8, kind: Kind, p: usize, l: usize, held: &[u8]) {
+pub fn look(rt: &HostRuntime, question: Question, held: &[u8]) {
+    let Question {
+        name,
+        kind,
+        p,
+        l,
+        ..
+    } = question;
     match name {
         b'h' => house(rt, p),
         b'j' => judge(rt, kind, p, l),

@@ -6,9 +6,9 @@ use code::{Kind, Line};
 // How many columns stand before the bytes. The last of them has the colon by which a question is known.
 pub const COLUMNS: usize = 24;
 
-// What a question tells a call: the first letter of its name, a tile's kind, two numbers, and two lines of a tile.
+// What a question holds for a call: the first letter of its name, a tile's kind, two numbers, and two lines of a tile.
 #[derive(Clone, Copy)]
-pub struct Told {
+pub struct Question {
     pub name: u8,
     pub kind: Kind,
     pub p: usize,
@@ -17,14 +17,14 @@ pub struct Told {
     pub second: Line,
 }
 
-// What the columns of a line tell, if it is a question.
-pub fn read(line: &[u8]) -> Option<Told>
-    ensures { IfSome result (λ told. 24 ≤ length line.now) }
+// The question that a line asks, by its columns, if it asks one.
+pub fn read(line: &[u8]) -> Option<Question>
+    ensures { IfSome result (λ question. 24 ≤ length line.now) }
 {
     if line.len() < COLUMNS || line[COLUMNS - 1] != b':' {
         return None;
     }
-    Some(Told {
+    Some(Question {
         name: line[0],
         kind: kind(line[7]),
         p: number(line, 8),

@@ -18,8 +18,8 @@ use Rattle.walk.specs.Sums.{Summed, OtherAt, AllOne}
 use Rattle.walk.specs.Good.{one_good, good_one, turned_good, turned_one, one_none}
 use Rattle.walk.specs.Along.{Changed, Shifted}
 use Rattle.search.specs.Line.{Fits, Searched, FitsAlong, weight_of, back_of, fits_agree, agree_fits, change_of, meets}
-use Rattle.search.specs.declared.hurt.Unclear.{Unclear}
-use Rattle.search.specs.declared.hurt.Unclear.TheVariants as unclear
+use Rattle.size.specs.declared.Unclear.{Unclear}
+use Rattle.size.specs.declared.Unclear.TheVariants as unclear
 
 -- the change x has one byte at most below n, at k; and it has two
 abbrev pub Once : ℕ → (ℕ → ℕ) → ℕ → Type 0

@@ -1,4 +1,3 @@
 -- What the search for a hurt line promises, and the laws behind its loops.
 pub mod Line
 pub mod Hurt
-pub mod Unclear

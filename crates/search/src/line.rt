@@ -8,53 +8,66 @@ ghost use Rattle.search.specs.Line.{Searched};
 use walk::index::step;
 use walk::sums::line_sum;
 
-// The first row or column along which the sums of both slopes agree, if there is one. Along line n, the sum of slope 1 of line
-// t has to be the one at the place shift n + weight t modulo p. The lines are tried in their order, and each is given up at the first sum
-// that differs. All begin at the same place, so that the first two sums of slope 1 are taken but once: where these two differ, they are
-// enough to give up nearly every wrong line.
-pub fn explaining(
-    p: usize,
-    shift: usize,
-    weight: usize,
-    begin: usize,
-    tile: &[u8],
-    sums: &[u8; 257],
-) -> Option<usize>
-    requires { (3 ≤ p) × (p ≤ 257) × (shift < p) × (weight < p) × (begin < p) × (length tile.now ≡ tile_length p) }
-    ensures { Searched p shift weight (sum p 1 (cell p tile.now)) (held sums.now) result }
-{
-    let here = line_sum(p, begin, tile);
-    let next = line_sum(p, step(p, begin, 1), tile);
-    let mut place = weight * begin % p;
-    'search: {
-        'lines: for n in 0..p - 1 {
-            let mut t = begin;
-            let mut u = place;
-            place = step(p, place, shift);
-            for k in 0..p {
-                if sums[u] != sum_after(p, k, here, next, t, tile) {
-                    continue 'lines;
-                }
-                t = step(p, t, 1);
-                u = step(p, u, weight);
-            }
-            break 'search Some(n);
-        }
-        None
-    }
+// A tile and the sums of its second slope, with the place at which every comparison begins.
+#[derive(Clone, Copy)]
+pub struct Scan<'a> {
+    pub p: usize,
+    pub begin: usize,
+    pub tile: &'a [u8],
+    pub sums: &'a [u8; 257],
+    pub ghost low: { 3 ≤ p },
+    pub ghost high: { p ≤ 257 },
+    pub ghost begin_lt: { begin < p },
+    pub ghost tile_len: { length tile.now ≡ tile_length p },
 }
 
-// The sum of line t, k lines after the first: that of the first two is known.
-fn sum_after(p: usize, k: usize, here: u8, next: u8, t: usize, tile: &[u8]) -> u8
-    requires le_p { (3 ≤ p) × (p ≤ 257) × (t < p) × (length tile.now ≡ tile_length p) }
-    requires here_value { (k ≡ 0 → here ≡ sum p 1 (cell p tile.now) t) × (k ≡ 1 → next ≡ sum p 1 (cell p tile.now) t) }
-    ensures { result ≡ sum p 1 (cell p tile.now) t }
-{
-    if k == 0 {
-        return here;
+impl Scan<'_> {
+    // The first row or column along which the sums of both slopes agree, if there is one. Along line n, the sum of slope 1 of line
+    // t has to be the one at the place shift n + weight t modulo p. The lines are tried in their order, and each is given up at the first
+    // sum that differs. All begin at the same place, so that the first two sums of slope 1 are taken but once: where these two differ, they are
+    // enough to give up nearly every wrong line. (Two loops left by a label: docs/DECISIONS.md, "The forms
+    // that the house asked for".)
+    pub fn explaining(&self, shift: usize, weight: usize) -> Option<usize>
+        requires { (shift < self.now.p) × (weight < self.now.p) }
+        ensures { Searched self.now.p shift weight (sum self.now.p 1 (cell self.now.p self.now.tile.now)) (held self.now.sums.now) result }
+    {
+        let Scan {
+            p,
+            begin,
+            tile,
+            sums,
+        } = *self;
+        let here = line_sum(p, begin, tile);
+        let next = line_sum(p, step(p, begin, 1), tile);
+        let mut place = weight * begin % p;
+        'search: {
+            'lines: for n in 0..p - 1 {
+                let mut t = begin;
+                let mut u = place;
+                place = step(p, place, shift);
+                for k in 0..p {
+                    if sums[u] != self.sum_after(k, here, next, t) {
+                        continue 'lines;
+                    }
+                    t = step(p, t, 1);
+                    u = step(p, u, weight);
+                }
+                break 'search Some(n);
+            }
+            None
+        }
     }
-    if k == 1 {
-        return next;
+
+    // The sum of line t, k lines after the first: that of the first two is known.
+    fn sum_after(&self, k: usize, here: u8, next: u8, t: usize) -> u8
+        requires t_lt { t < self.now.p }
+        requires here_value { let A = sum self.now.p 1 (cell self.now.p self.now.tile.now) in (k ≡ 0 → here ≡ A t) × (k ≡ 1 → next ≡ A t) }
+        ensures { result ≡ sum self.now.p 1 (cell self.now.p self.now.tile.now) t }
+    {
+        match k {
+            0 => here,
+            1 => next,
+            _ => line_sum(self.p, t, self.tile),
+        }
     }
-    line_sum(p, t, tile)
 }

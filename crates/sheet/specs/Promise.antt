@@ -116,8 +116,8 @@ module _ (kind : Kind) (p l n : ℕ) (tile sheet new : List ℕ) (told : Correct
   pub correct_good : Good p l tile → Good p l new × (text_of p new ≡ xored (text_of p tile) (differences p sheet))
   correct_good g = let w = rw (← (changed told).becomes) at (afresh tile (taken told).2 g) in (w.good, w.has)
 
-  -- REPAIR gives the same answer after the sheet as before; its tile is the earlier one with the change added, and where it succeeds that is
-  -- the one written afresh from its text corrected by the differences
+  -- REPAIR gives the same answer after the sheet as before; its tile is the earlier one with the change added, and where it succeeds that
+  -- is the one written afresh from its text corrected by the differences
   pub repair_after : (said said' : answer.Said) (fixed fixed' : List ℕ) → RepairTold kind p l tile said fixed → RepairTold kind p l new said' fixed'
       → (said' ≡ said) × (fixed' ≡ xored fixed change)
       × (Granted said → Writes p l (xored (text_of p fixed) (differences p sheet)) fixed')

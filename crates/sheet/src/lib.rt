@@ -50,7 +50,8 @@ struct Correction {
     is: u8,
 }
 
-// The k-th record, taken apart, if it has the mark. Here alone the code knows how a record is laid out.
+// The k-th record, taken apart, if it has the mark. Here alone the code knows how a record is laid out. (By its number: the promises in
+// specs/Sheet.antt name a record so, and a fault tells the offset that the number gives.)
 fn nth(sheet: &[u8], k: usize) -> Option<Correction>
     requires { k < records sheet.now }
     ensures { Read sheet.now k result }
@@ -122,7 +123,8 @@ fn make(lattice: Lattice, sheet: &[u8], tile: &mut [u8])
     checks::settle(lattice, &a, &b, tile);
 }
 
-// Adds a byte to the sum of the slope-s line through the cell in row i and column j.
+// Adds a byte to the sum of the slope-s line through the cell in row i and column j. (Six parameters: a struct of them would be made anew
+// for each of its two calls.)
 fn add_byte(p: usize, s: usize, i: usize, j: usize, x: u8, sums: &mut [u8; 257])
     requires { (i < p) × (j < p) × (s < p) × (p ≤ 257) }
     ensures { ByteAdded p s i j x sums.old sums.new }

@@ -10,7 +10,7 @@ use Rattle.reel.specs.declared.Tile.{Tile}
 use Rattle.page.specs.Page.{Puts}
 use Rattle.page.specs.Then.{puts_nothing, ◌then◌}
 use Rattle.picture.specs.Laws.{below_counted}
-use Rattle.picture.specs.Tally.{counted, Below}
+use Rattle.picture.specs.Tally.{counted, Below, most_squares}
 use Rattle.picture.specs.declared.Form.{Form}
 use Rattle.picture.specs.declared.tally.Tally.{Tally}
 use Rattle.window.specs.Treat.{RestoredIn}
@@ -24,7 +24,6 @@ use Rattle.show.specs.declared.Walked.{Walked}
 pub record Going (form : Form) (last : Bool) (offset : ℕ) (window₀ : List ℕ) (k₀ : Walk) (page₀ window : List ℕ) (k : Walk) (page : List ℕ) : Type 0 where
   pub text : List ℕ
   pub shown : Puts page₀ 0 text k.used page
-  pub fits : k.used ≤ length page
   pub few : Below (100000000000000000 + k.place) k.tally
   pub so_far : (r : Walked) (more after : List ℕ) → Walks form last offset (length page₀) window k r more after
       → Walks form last offset (length page₀) window₀ k₀ r (text ++ more) after
@@ -37,7 +36,6 @@ pub going_first : (form : Form) (last : Bool) (offset : ℕ) (window : List ℕ)
 going_first form last offset window from tally page near = record {
   text = [];
   shown = puts_nothing page 0;
-  fits = omega arith;
   few = below_more (omega arith) near.few;
   so_far = λ r more after w. w;
 }
@@ -45,7 +43,7 @@ going_first form last offset window from tally page near = record {
 module _ {form : Form} {last : Bool} {offset : ℕ} {window₀ : List ℕ} {k₀ : Walk} {page₀ window : List ℕ} {k : Walk} {page : List ℕ}
     (going : Going form last offset window₀ k₀ page₀ window k page) where
   -- as many tiles as places can be counted
-  pub going_few : {t : Tile} → NextTold window k.place (tile t) → length window ≤ 9223372036854775807 → Below 10000000000000000000 k.tally
+  pub going_few : {t : Tile} → NextTold window k.place (tile t) → length window ≤ 9223372036854775807 → Below most_squares k.tally
   going_few told h = below_more (omega (arith, moves_on told)) going.few
 
   pub going_on : {t : Tile} {r : Walk} {after page' : List ℕ} → k.used + 512 ≤ length page → NextTold window k.place (tile t)
@@ -53,7 +51,6 @@ module _ {form : Form} {last : Bool} {offset : ℕ} {window₀ : List ℕ} {k₀
   going_on {t} {r} {after} {page'} room told p = record {
     text = going.text ++ shown_of form offset k t p.said;
     shown = going.shown then p.shown;
-    fits = omega (arith, p.fits, p.shown.same, room);
     few = subst (λ (x : Walk). Below (100000000000000000 + x.place) x.tally) (sym p.is)
         (below_more (omega (arith, moves_on told)) (below_counted {n = 100000000000000000 + k.place} p.said going.few));
     so_far = λ q more final w.

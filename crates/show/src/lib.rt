@@ -8,7 +8,7 @@ ghost use Rattle.code.specs.Says.{Says};
 ghost use Rattle.reel.specs.Answer.{tile as tile_said};
 ghost use Rattle.reel.specs.Calls.{NextTold};
 ghost use Rattle.page.specs.Page.{Room};
-ghost use Rattle.picture.specs.Tally.{Below};
+ghost use Rattle.picture.specs.Tally.{Below, most_squares};
 ghost use Rattle.show.specs.Show.{PastTold, AlongTold, Near};
 
 use page::Page;
@@ -17,7 +17,8 @@ use picture::tally::Tally;
 use reel::Tile;
 use window::NoTile;
 
-// A walk: the place that it has come to, the tiles so far, and how much of the page is used.
+// A walk: the place that it has come to, the tiles so far, and how much of the page is used. (The page knows this too; but `Walks` says by
+// it whether one more tile has room, and its theorems, as `windows_list`, speak of walks with no page beside them.)
 #[derive(Clone, Copy)]
 pub struct Walk {
     pub place: usize,
@@ -25,7 +26,7 @@ pub struct Walk {
     pub used: usize,
 }
 
-// The walk behind a tile, which is restored and shown.
+// The walk behind a tile, which is restored and shown. (Six values, which `PastTold` relates: window and page are lent apart.)
 fn past(
     form: Form,
     window: &mut [u8],
@@ -37,7 +38,7 @@ fn past(
     requires next_told { NextTold window.old walk.place (tile_said tile) }
     requires used_in_bounds { Room 512 page.old }
     requires used { page.old.used ≡ walk.used }
-    requires below { Below 10000000000000000000 walk.tally }
+    requires below { Below most_squares walk.tally }
     requires offset_bound { offset ≤ 100000000000000000 }
     ensures past { PastTold form offset window.old walk tile page.old.bytes.now result window.new page.new.bytes.now }
     ensures used { page.new.used ≡ result.used }
@@ -66,7 +67,8 @@ pub struct Walked {
     pub ending: Option<NoTile>,
 }
 
-// Walks along a window from a place on, restores each tile and shows it, as long as there is room on the page.
+// Walks along a window from a place on, restores each tile and shows it, as long as there is room on the page. (Seven values, since this is
+// public and `AlongTold` names each. A loop with places by hand: each tile changes the window, and says where the next one begins.)
 pub fn along(
     form: Form,
     window: &mut [u8],
@@ -102,7 +104,7 @@ pub fn along(
 // The most bytes, and the most tiles, that are counted.
 pub const FAR: usize = 100000000000000000;
 
-// Is all that is counted below that?
+// Is the offset at most that, and each count of the tally below it?
 pub fn is_near(offset: usize, tally: Tally) -> bool
     ensures { Says result (Near offset tally) }
 {

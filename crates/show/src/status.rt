@@ -39,7 +39,8 @@ fn is_well(tally: Tally, mended: bool) -> bool
     }
 }
 
-// The status of a whole reel: whether its walk came to the end, and whether its tiles were to be mended.
+// The status of a whole reel: whether its walk came to the end, and whether its tiles were to be mended. (Two flags, since this is public
+// and `StatusIs` takes both as they are.)
 pub fn of_reel(tally: Tally, ended: bool, mended: bool) -> Status
     ensures { StatusIs mended tally ended result }
 {
@@ -54,10 +55,10 @@ pub fn of_reel(tally: Tally, ended: bool, mended: bool) -> Status
 }
 
 // The status of a fill that is refused: a line that the tile does not have was asked for wrongly.
-pub fn of_fill(no: Refusal) -> Status
-    ensures { FillStatusIs (number_of no) result }
+pub fn of_fill(refusal: Refusal) -> Status
+    ensures { FillStatusIs (number_of refusal) result }
 {
-    match no {
+    match refusal {
         Refusal::BadPlace => Status::Failed,
         _ => Status::Wrong,
     }

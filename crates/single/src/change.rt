@@ -1,11 +1,10 @@
 // A new reel on which one tile is changed: lines of it are filled, or it is corrected by a sheet.
-ghost use Rattle.std.specs.Prelude.{◌≡◌, length};
-
 use crate::{find, line_of};
 use code::Line;
+use files::asked::Asked;
 use files::held::Word;
 use files::input::Input;
-use files::new::NewReel;
+use files::new::{NewReel, Target};
 use files::progress::Clock;
 use files::told::Told;
 use files::windows::Windows;
@@ -52,9 +51,9 @@ struct Wanted {
 }
 
 // Fills lines of a tile.
-pub fn fill(rt: &HostRuntime, plain: usize, force: bool) -> Result<(), Status> {
-    let wanted = Wanted::asked(rt, Verb::Fill, force)?;
-    let lines = Lines::asked(rt, plain)?;
+pub fn fill(rt: &HostRuntime, asked: Asked) -> Result<(), Status> {
+    let wanted = Wanted::asked(rt, Verb::Fill, asked.force)?;
+    let lines = Lines::asked(rt, asked.plain)?;
     wanted.make(rt, &lines)
 }
 
@@ -62,7 +61,7 @@ pub fn fill(rt: &HostRuntime, plain: usize, force: bool) -> Result<(), Status> {
 pub fn correct(rt: &HostRuntime, force: bool) -> Result<(), Status> {
     let wanted = Wanted::asked(rt, Verb::Correct, force)?;
     let name = asked::word(rt, 3)?;
-    let mut room = sheet_room();
+    let mut room = [0; SHEET_ROOM];
     let sheet = Sheet::read(rt, name.bytes(), &mut room)?;
     wanted.make(rt, &sheet)
 }
@@ -86,12 +85,15 @@ impl Wanted {
     fn make<C: Change>(&self, rt: &HostRuntime, change: &C) -> Result<(), Status> {
         let reel = Input::open(rt, self.reel.bytes())?;
         let number = self.number;
+        let target = Target {
+            name: self.new.bytes(),
+            force: self.force,
+        };
         new::made(
             rt,
             Some(&reel.source),
-            self.new.bytes(),
-            self.force,
-            |new| { changed(rt, &reel, new, number, change) },
+            target,
+            |new| changed(rt, &reel, new, number, change),
         )
     }
 }
@@ -104,7 +106,7 @@ fn changed<C: Change>(
     number: usize,
     change: &C,
 ) -> Result<(), Status> {
-    let mut room = windows::room();
+    let mut room = [0; windows::WINDOW];
     let clock = Clock::begun(rt, false);
     let mut windows = Windows::begun(rt, reel, Some(new), &mut room, clock)?;
     let tile = find(rt, &mut windows, number)?;
@@ -121,7 +123,7 @@ fn line_word(rt: &HostRuntime, k: usize) -> Result<Line, Told> {
     let word = asked::word(rt, k)?;
     match words::line(word.bytes()) {
         Some(line) => Ok(line),
-        None => Err(guide::wrong(rt, Verb::Fill, word.bytes(), b": no line")),
+        None => Err(guide::wrong(rt, Verb::Fill, word.bytes(), ": no line")),
     }
 }
 
@@ -145,9 +147,9 @@ impl Change for Lines {
     ) -> Result<(), Status> {
         match window::one::fill(window, at, self.first, self.second) {
             Ok(()) => Ok(say::print_line(rt, line_of(tile, Ok(Restored::Filled)))?),
-            Err(no) => {
-                say::listed(rt, line_of(tile, Err(no)));
-                Err(status::of_fill(no))
+            Err(refusal) => {
+                say::listed(rt, line_of(tile, Err(refusal)));
+                Err(status::of_fill(refusal))
             }
         }
     }
@@ -156,19 +158,15 @@ impl Change for Lines {
 // The most bytes that a sheet may have: 16,384 records.
 const SHEET: usize = 131072;
 
-// Room for a sheet, and for a byte more.
-fn sheet_room() -> [u8; 131073]
-    ensures { 131073 ≡ length result }
-{
-    [0; 131073]
-}
+// So many are read: one more tells that a sheet is too long.
+const SHEET_ROOM: usize = SHEET + 1;
 
 impl<'a> Sheet<'a> {
     // Reads a sheet. If that fails, or it is too long, that is said.
     fn read(rt: &HostRuntime, name: &'a [u8], room: &'a mut [u8]) -> Result<Sheet<'a>, Told> {
         let records = Input::open(rt, name)?.read(rt, room)?;
         if records.len() > SHEET {
-            return Err(say::about(rt, name, b": longer than 131072 bytes"));
+            return Err(say::about(rt, name, format_args!(": longer than {} bytes", SHEET)));
         }
         Ok(Sheet { name, records })
     }
@@ -187,17 +185,15 @@ impl<'a> Change for Sheet<'a> {
             Ok(count) => {
                 let mut page = io::buffer();
                 let used = picture::corrected(tile.number, tile.p, tile.l, count, &mut page);
-                Ok(say::print(rt, &page, used)?)
+                Ok(say::print(rt, &page[..used])?)
             }
             Err(Fault { refusal, at }) => {
-                say::name(rt);
-                say::words(rt, self.name);
-                say::words(rt, b": refused ");
-                say::number(rt, size::number(refusal));
-                say::words(rt, b" at ");
-                say::number(rt, at);
-                say::words(rt, b"\n");
-                Err(Status::Failed)
+                let number = size::number(refusal);
+                Err(Status::from(say::about(
+                    rt,
+                    self.name,
+                    format_args!(": refused {number} at {at}"),
+                )))
             }
         }
     }

@@ -1,5 +1,5 @@
-// What the command does with one tile of a reel, the first that has a number: it is read, filled or corrected. Where that is not done, it is
-// told why, and the answer is the exit status.
+// What the command does with one tile of a reel, the first that has a number: it is read, filled or corrected. Where that is not done, it
+// is told why, and the answer is the exit status.
 #![tactic(auto)]
 
 mod change;
@@ -9,7 +9,7 @@ use files::input::Input;
 use files::progress::Clock;
 use files::windows::Windows;
 use files::{asked, measure, say, windows};
-use hunt::{Hunt, Passed};
+use hunt::Passed;
 use lettering::line;
 use promise::{Repaired, Restored};
 use reel::Tile;
@@ -22,7 +22,7 @@ pub fn read(rt: &HostRuntime) -> Result<(), Status> {
     let name = asked::word(rt, 0)?;
     let number = asked::number(rt, Verb::Read, 1)?;
     let reel = Input::open(rt, name.bytes())?;
-    let mut room = windows::room();
+    let mut room = [0; windows::WINDOW];
     let clock = Clock::begun(rt, false);
     let mut windows = Windows::begun(rt, &reel, None, &mut room, clock)?;
     let tile = find(rt, &mut windows, number)?;
@@ -33,14 +33,10 @@ pub fn read(rt: &HostRuntime) -> Result<(), Status> {
 // Looks for the tile along a reel. If there is none, it is said what the walk came to.
 fn find(rt: &HostRuntime, reel: &mut Windows, number: usize) -> Result<Tile, Status> {
     match hunt::search(rt, reel, number)? {
-        Hunt::Here(tile) => Ok(tile),
-        Hunt::Nowhere(passed) => {
+        Ok(tile) => Ok(tile),
+        Err(passed) => {
             say::listed(rt, closing_line(passed));
-            say::name(rt);
-            say::words(rt, reel.name());
-            say::words(rt, b": no tile ");
-            say::number(rt, number);
-            say::words(rt, b"\n");
+            let _told = say::about(rt, reel.name(), format_args!(": no tile {number}"));
             Err(Status::Wrong)
         }
     }
@@ -72,13 +68,13 @@ fn restore(rt: &HostRuntime, reel: &mut Windows, tile: Tile) -> Result<(), Statu
     }
 }
 
-// Prints the text of a good tile.
+// Prints the text of a good tile. That its size is one, and so how long its text is at most, the search does not promise.
 fn print_text(rt: &HostRuntime, reel: &mut Windows, tile: Tile) -> Result<(), Status> {
     let mut text = io::large_buffer();
     let n = say::at_most(measure::text(tile.p), &text);
     let place = reel.place;
     match window::one::read(reel.window(), place, &mut text[..n]) {
-        Ok(()) => Ok(say::print(rt, &text, n)?),
+        Ok(()) => Ok(say::print(rt, &text[..n])?),
         Err(_) => Err(Status::Wrong),
     }
 }

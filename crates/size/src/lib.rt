@@ -26,7 +26,8 @@ pub enum Refusal {
     DiffersElsewhere,
 }
 
-// The number of a refusal (SPEC 9.1).
+// The number of a refusal (SPEC 9.1). (Not the enum's own numbers: that two refusals may have one is a wrong program, which must-fail
+// `wrong_number` shows to be refused, and an enum cannot be that wrong.)
 pub fn number(refusal: Refusal) -> usize
     ensures { result ≡ number_of refusal }
 {
@@ -42,6 +43,27 @@ pub fn number(refusal: Refusal) -> usize
         Refusal::TooSmall => 9,
         Refusal::NotGood => 10,
         Refusal::DiffersElsewhere => 11,
+    }
+}
+
+// Why it is not known what a tile was: nothing explains what is hurt in it, or more than one thing does.
+#[derive(Clone, Copy, PartialEq, Eq)]
+pub enum Unclear {
+    Damaged,
+    Doubtful,
+}
+
+// The refusal by which a call says so.
+impl From<Unclear> for Refusal {
+    ghost use Rattle.size.specs.Unclear.{refusal_of};
+
+    ghost from_gives = { λ unclear refusal. refusal ≡ refusal_of unclear };
+
+    fn from(unclear: Unclear) -> Refusal {
+        match unclear {
+            Unclear::Damaged => Refusal::Damaged,
+            Unclear::Doubtful => Refusal::Doubtful,
+        }
     }
 }
 

@@ -1,5 +1,5 @@
-// The tile calls: write, read, repair, inspect, recover, fill and judge. None asks anything of its input: what cannot be done is refused by number, and a
-// refused call changes no byte that was lent to it. Each stands in a room of its own; here are all of them, for users.
+// The tile calls: write, read, repair, inspect, recover, fill and judge. None asks anything of its input: what cannot be done is refused by
+// number, and a refused call changes no byte that was lent to it. They stand in crates of their own; here are all of them, for users.
 #![tactic(auto)]
 
 pub use filler::fill;

@@ -1,11 +1,12 @@
 // The sums along a row or a column, and the change in it that they ask for.
-ghost use Rattle.std.specs.Prelude.{◌≡◌, ◌≤◌, ◌<◌, length};
+ghost use Rattle.std.specs.Prelude.{◌≤◌, ◌<◌};
 ghost use Rattle.code.specs.Held.{held};
 ghost use Rattle.walk.specs.Along.{Stepping, TakenOff, Changed};
 
 use crate::index::step;
 
-// Puts into `out` every `weight`-th sum from `start` on: p of them, as the lines go round.
+// Puts into `out` every `weight`-th sum from `start` on: p of them, as the lines go round. (By their places: these come round modulo p,
+// which no `step_by` does.)
 pub fn along(p: usize, start: usize, weight: usize, sums: &[u8; 257], out: &mut [u8; 257])
     requires { (start < p) × (weight < p) × (p ≤ 257) }
     ensures { Stepping p start weight (held sums.now) (held out.new) }

@@ -82,7 +82,8 @@ pub fn line_sum(p: usize, t: usize, tile: &[u8]) -> u8
     lower ^ run_sum(tile, t, p - 2, t + 1)
 }
 
-// The sum of `count` bytes, the first at `start` and each `step` after the one before it.
+// The sum of `count` bytes, the first at `start` and each `step` after the one before it. (By their places, and by no slice from
+// `start` on: where the count is 0, `start` may be past the tile's end.)
 fn run_sum(tile: &[u8], start: usize, step: usize, count: usize) -> u8
     requires { (start + step * count ≤ 200000) × ((k : ℕ) → k < count → start + step * k < length tile.now) }
     ensures { result ≡ xor_below count (λ k. held tile.now (start + step * k)) }

@@ -5,7 +5,7 @@ ghost use Rattle.std.specs.Prelude.{◌≤◌, length};
 
 use files::again::Second;
 use files::input::Input;
-use files::new::NewReel;
+use files::new::{NewReel, Target};
 use files::progress::Clock;
 use files::told::{Failure, Told, too_long};
 use files::windows::{Stop, Windows};
@@ -28,9 +28,16 @@ pub fn repair(rt: &HostRuntime, force: bool) -> Result<Status, Told> {
     let name = asked::word(rt, 0)?;
     let new = asked::word(rt, 1)?;
     let reel = Input::open(rt, name.bytes())?;
-    new::made(rt, Some(&reel.source), new.bytes(), force, |new| {
-        shown(rt, Form::Lines, &reel, Some(new))
-    })
+    let target = Target {
+        name: new.bytes(),
+        force,
+    };
+    new::made(
+        rt,
+        Some(&reel.source),
+        target,
+        |new| shown(rt, Form::Lines, &reel, Some(new)),
+    )
 }
 
 // Draws a reel, in signs or as a drawing.
@@ -48,12 +55,12 @@ pub fn map(rt: &HostRuntime, text: bool) -> Result<Status, Told> {
 // name meanwhile.
 fn drawn(rt: &HostRuntime, reel: &Input) -> Result<Status, Told> {
     match again::how(rt, reel)? {
-        Second::From(place) => drawn_from(rt, reel, place),
-        Second::By(other) => {
+        Some(Second::SetBack(place)) => drawn_from(rt, reel, place),
+        Some(Second::Other(other)) => {
             counted(rt, &other)?;
             shown(rt, Form::Squares, reel, None)
         }
-        Second::No => drawn_from(rt, &again::kept(rt, reel)?, 0),
+        None => drawn_from(rt, &again::kept(rt, reel)?, 0),
     }
 }
 
@@ -67,11 +74,11 @@ fn drawn_from(rt: &HostRuntime, reel: &Input, place: u64) -> Result<Status, Told
 // Counts the squares and begins the drawing. Its room is free again when that is done.
 #[inline(never)]
 fn counted(rt: &HostRuntime, reel: &Input) -> Result<(), Told> {
-    let mut room = windows::room();
+    let mut room = [0; windows::WINDOW];
     let count = hunt::count(rt, reel, &mut room)?;
     let mut page = io::buffer();
     let used = picture::begun(Form::Squares, count, &mut page);
-    say::print(rt, &page, used)
+    say::print(rt, &page[..used])
 }
 
 // What a whole reel came to: what was found on it, and where the walk stopped, if it did not come to the end.
@@ -94,11 +101,12 @@ impl Found {
             Some(stop) => picture::stopped(form, tally, stop.refusal, stop.offset, page),
             None => picture::ended(form, tally, page),
         };
-        say::print(rt, page, used)
+        say::print(rt, &page[..used])
     }
 }
 
-// Shows a reel in a form that is made in one walk. The tiles are mended on the new reel, if there is one.
+// Shows a reel in a form that is made in one walk. The tiles are mended on the new reel, if there is one. Its room is free again when that
+// is done.
 #[inline(never)]
 fn shown(
     rt: &HostRuntime,
@@ -106,7 +114,7 @@ fn shown(
     reel: &Input,
     new: Option<&NewReel>,
 ) -> Result<Status, Told> {
-    let mut room = windows::room();
+    let mut room = [0; windows::WINDOW];
     let mut page = io::large_buffer();
     let clock = Clock::begun(rt, is_by_rows(form));
     let mut windows = Windows::begun(rt, reel, new, &mut room, clock)?;
@@ -121,7 +129,8 @@ fn is_by_rows(form: Form) -> bool {
     matches!(form, Form::Signs)
 }
 
-// Walks along a whole reel.
+// Walks along a whole reel. How many windows it has only the system knows, and a loop without an end needs the handle Wait, which no
+// function here has: so the windows are counted.
 fn walk(
     rt: &HostRuntime,
     form: Form,
@@ -165,10 +174,10 @@ fn show_some(
     let place = reel.place;
     let is_last = reel.is_last;
     let walked = show::along(form, reel.window(), place, is_last, offset, tally, page);
-    let used = say::at_most(walked.walk.used, page);
+    let used = walked.walk.used;
     reel.clock.clear(rt);
-    match rt.stdout().write_all(&page[..used]) {
-        Ok(()) => Ok(walked),
-        Err(error) => Err(Failure::Output(error)),
-    }
+    rt.stdout()
+        .write_all(&page[..used])
+        .map_err(Failure::Output)?;
+    Ok(walked)
 }

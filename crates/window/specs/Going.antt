@@ -1,6 +1,7 @@
 -- How far a search along a window has come, and what follows from a tile that it passes. Assumes nothing.
-use Rattle.std.specs.Prelude.{◌≡◌, Ok, Err, Bool, true, false, List, ◌++◌, ℕ, ◌+◌, ◌-◌, ◌≤◌, length, take, drop}
-use Rattle.std.proofs.Common.{sym, ap, ◌∙◌, arith, length-drop, length-take-le}
+use Rattle.std.specs.Prelude.{◌≡◌, refl, Ok, Err, Option, Some, None, Bool, true, false, not, eqb, List, ◌++◌, ℕ, ◌+◌, ◌-◌, ◌≤◌, length, take, drop}
+use Rattle.std.specs.Option.{option_eq}
+use Rattle.std.proofs.Common.{sym, ap, eq-eqb, eqb-true, ◌∙◌, arith, length-drop, length-take-le}
 use Rattle.code.specs.Tile.{tile_length}
 use Rattle.size.specs.Once.{number_once}
 use Rattle.size.specs.Refusal.{number_of}
@@ -21,19 +22,35 @@ use Rattle.window.specs.declared.Sought.{Sought}
 -- ---- a search
 
 -- a search from one place and count has come to another: what is found from there on is found from the first one on
-pub record Seeking (window : List ℕ) (last : Bool) (number from before at n : ℕ) : Type 0 where
+pub record Seeking (window : List ℕ) (last : Bool) (wanted : Option ℕ) (from before at n : ℕ) : Type 0 where
   pub few : n ≤ before + at
-  pub so_far : (r : Sought) → Seeks window last number at n r → Seeks window last number from before r
+  pub so_far : (r : Sought) → Seeks window last wanted at n r → Seeks window last wanted from before r
 
-pub seeking_first : (window : List ℕ) (last : Bool) (number from before : ℕ) → Seeking window last number from before from before
-seeking_first window last number from before = record { few = omega arith; so_far = λ r s. s }
+pub seeking_first : (window : List ℕ) (last : Bool) (wanted : Option ℕ) (from before : ℕ) → Seeking window last wanted from before from before
+seeking_first window last wanted from before = record { few = omega arith; so_far = λ r s. s }
 
-pub seeking_on : {window : List ℕ} {last : Bool} {number from before at n : ℕ} {t : Tile} → Seeking window last number from before at n
-    → NextTold window at (tile t) → (t.number ≡ number → ⊥) → Seeking window last number from before (t.at + tile_length t.p) (n + 1)
-seeking_on {window} {last} {number} {from} {before} {at} {n} going told other = record {
+pub seeking_on : {window : List ℕ} {last : Bool} {wanted : Option ℕ} {from before at n : ℕ} {t : Tile} → Seeking window last wanted from before at n
+    → NextTold window at (tile t) → (wanted ≡ Some t.number → ⊥) → Seeking window last wanted from before (t.at + tile_length t.p) (n + 1)
+seeking_on {window} {last} {wanted} {from} {before} {at} {n} going told other = record {
   few = omega (arith, going.few, (moves_on told).0);
   so_far = λ r s. going.so_far r (passes told other s);
 }
+
+-- the test for the number that is wanted, where it passes a tile and where it does not
+pub other_number : (wanted : Option ℕ) (n : ℕ) → not (option_eq eqb wanted (Some n)) ≡ true → wanted ≡ Some n → ⊥
+other_number None n e same = cc
+other_number (Some m) n e same =
+    let here : m ≡ n = cc in
+    let none : false ≡ true = rw (eq-eqb m n here) at e in
+    cc
+
+is_equal : (b : Bool) → not b ≡ false → b ≡ true
+is_equal true e = refl
+is_equal false e = cc
+
+pub wanted_number : (wanted : Option ℕ) (n : ℕ) → not (option_eq eqb wanted (Some n)) ≡ false → wanted ≡ Some n
+wanted_number None n e = cc
+wanted_number (Some m) n e = ap Some (eqb-true m n (is_equal (eqb m n) e))
 
 -- ---- a tile lies within its window
 
@@ -52,15 +69,21 @@ put_back window at k new e = ap (λ (n : ℕ). take at window ++ (new ++ drop n 
 
 -- ---- what is done with a tile, and put back
 
--- the part of a window where a tile's bytes are is cut out by the place where they end; what the call makes of it stands there then
+-- the part of a window where a tile's bytes are is cut out by the places where they begin and end; what the call makes of it stands there
+-- then
 module _ {Answer : Type 0} (refuse : ℕ → Answer) (Told : Tile → List ℕ → Answer → List ℕ → Type 0) (window : List ℕ) (at : ℕ) {t : Tile} (told : NextTold window at (tile t)) where
-  pub placed : (end : ℕ) (a : Answer) (new : List ℕ) → end ≡ t.at + tile_length t.p → length new ≡ length (take (end - t.at) (drop t.at window))
+  placed_behind : (end : ℕ) (a : Answer) (new : List ℕ) → end ≡ t.at + tile_length t.p → length new ≡ length (take (end - t.at) (drop t.at window))
       → Told t (take (end - t.at) (drop t.at window)) a new
       → OnTile refuse Told (λ u x. changed window u.at x) window window at a (take t.at window ++ (new ++ drop (end - t.at) (drop t.at window)))
-  placed end a new e long done =
+  placed_behind end a new e long done =
       let count : end - t.at ≡ tile_length t.p = omega (arith, e) in
       let same : length new ≡ end - t.at = long ∙ length-take-le (end - t.at) (drop t.at window) (omega (arith, count, length-drop t.at window, tile_within told)) in
       rw (put_back window t.at (end - t.at) new same) (there told (rw count at done))
+
+  pub placed : (start end : ℕ) (a : Answer) (new : List ℕ) → start ≡ t.at → end ≡ t.at + tile_length t.p
+      → length new ≡ length (take (end - start) (drop start window)) → Told t (take (end - start) (drop start window)) a new
+      → OnTile refuse Told (λ u x. changed window u.at x) window window at a (take start window ++ (new ++ drop (end - start) (drop start window)))
+  placed start end a new b e long done = rw b (placed_behind end a new e (rw b at long) (rw b at done))
 
 -- a tile is restored, and put back
 pub restored_in : {window : List ℕ} {t : Tile} {said : Said} {end : ℕ} (new : List ℕ) → Within window t → end ≡ t.at + tile_length t.p

@@ -1,5 +1,5 @@
 -- The contracts settle the answers and the bytes: two outcomes that are allowed of one window are the same. Assumes nothing.
-use Rattle.std.specs.Prelude.{◌≡◌, refl, Result, Ok, Err, Bool, true, false, cond, List, ℕ, ◌+◌, eqb, length}
+use Rattle.std.specs.Prelude.{◌≡◌, refl, Result, Ok, Err, Option, Some, Bool, true, false, cond, List, ℕ, ◌+◌, eqb, length}
 use Rattle.std.proofs.Common.{sym, ap, subst, ◌∙◌, ne_eqb}
 use Rattle.code.specs.Tile.{tile_length}
 use Rattle.code.specs.declared.Line.{Line}
@@ -49,12 +49,12 @@ look_once {window} {at} {last} x y =
 -- ---- a search
 
 -- where it is over, no tile is passed
-over_there : {window : List ℕ} {at at' : ℕ} {last : Bool} {number : ℕ} {s : Result Tile NoTile} {t : Tile} → at ≡ at' → LookTold window at last s → IsOver number s
-    → NextTold window at' (reel.tile t) → (t.number ≡ number → ⊥) → ⊥
-over_there {window} {at} {at'} {last} {number} {s} {t} e look over told other =
-    other (subst (IsOver number) (look_once look (a_tile (subst (λ (k : ℕ). NextTold window k (reel.tile t)) (sym e) told))) over)
+over_there : {window : List ℕ} {at at' : ℕ} {last : Bool} {wanted : Option ℕ} {s : Result Tile NoTile} {t : Tile} → at ≡ at' → LookTold window at last s → IsOver wanted s
+    → NextTold window at' (reel.tile t) → (wanted ≡ Some t.number → ⊥) → ⊥
+over_there {window} {at} {at'} {last} {wanted} {s} {t} e look over told other =
+    other (subst (IsOver wanted) (look_once look (a_tile (subst (λ (k : ℕ). NextTold window k (reel.tile t)) (sym e) told))) over)
 
-same_search : {window : List ℕ} {last : Bool} {number at at' n : ℕ} {a b : Sought} → at ≡ at' → Seeks window last number at n a → Seeks window last number at' n b → a ≡ b
+same_search : {window : List ℕ} {last : Bool} {wanted : Option ℕ} {at at' n : ℕ} {a b : Sought} → at ≡ at' → Seeks window last wanted at n a → Seeks window last wanted at' n b → a ≡ b
 same_search {window} {last} e (comes {n = n} {s} x over) (comes {s = s'} y over') =
     let same = look_once (subst (λ (k : ℕ). LookTold window k last s) e x) y in
     λ i. record { place = e i; tiles = n; goal = same i }
@@ -64,7 +64,7 @@ same_search {window} {at' = at'} e (passes {t = t} x other more) (passes {t = u}
     let same = tile_once (next_told_once window at' (reel.tile t) (reel.tile u) (subst (λ (k : ℕ). NextTold window k (reel.tile t)) e x) y) in
     same_search (λ i. (same i).at + tile_length (same i).p) more more'
 
-pub seek_once : {window : List ℕ} {last : Bool} {number at n : ℕ} {a b : Sought} → Seeks window last number at n a → Seeks window last number at n b → a ≡ b
+pub seek_once : {window : List ℕ} {last : Bool} {wanted : Option ℕ} {at n : ℕ} {a b : Sought} → Seeks window last wanted at n a → Seeks window last wanted at n b → a ≡ b
 seek_once x y = same_search refl x y
 
 -- ---- one tile

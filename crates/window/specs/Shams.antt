@@ -1,5 +1,5 @@
 -- Wrong programs, each broken by a theorem: no such program meets its contract. Assumes nothing.
-use Rattle.std.specs.Prelude.{◌≡◌, refl, Err, Bool, false, List, [], ◌∷◌, ℕ, ◌+◌, ◌<◌, get_or, drop}
+use Rattle.std.specs.Prelude.{◌≡◌, refl, Err, Some, Bool, false, List, [], ◌∷◌, ℕ, ◌+◌, ◌<◌, get_or, drop}
 use Rattle.std.proofs.Common.{sym, ap, subst, ◌∙◌, arith}
 use Rattle.std.proofs.Math.Seq.{paste}
 use Rattle.size.specs.declared.Refusal.TheVariants.{CutShort}
@@ -33,17 +33,17 @@ stops_at_the_edge (stop told other) = other refl
 
 -- one that goes on where the number stands, for a later tile that has it too
 pub goes_past : {window : List ℕ} {last : Bool} {number at n : ℕ} {t : Tile} {r : Sought} → NextTold window at (tile t) → t.number ≡ number
-    → Seeks window last number at n r → r.place ≡ at
+    → Seeks window last (Some number) at n r → r.place ≡ at
 goes_past told same (comes look over) = refl
 goes_past {window} {at = at} {t = t} told same (passes {t = u} told' other more) =
-    absurd (other (sym (ap (λ (v : Tile). v.number) (tile_once (next_told_once window at (tile t) (tile u) told told'))) ∙ same))
+    absurd (other (ap Some (sym same ∙ ap (λ (v : Tile). v.number) (tile_once (next_told_once window at (tile t) (tile u) told told')))))
 
 -- one that counts the tile that it was asked for among those that it passed
 pub counts_it_too : {window : List ℕ} {last : Bool} {number at n : ℕ} {t : Tile} {r : Sought} → NextTold window at (tile t) → t.number ≡ number
-    → Seeks window last number at n r → r.tiles ≡ n + 1 → ⊥
+    → Seeks window last (Some number) at n r → r.tiles ≡ n + 1 → ⊥
 counts_it_too told same (comes look over) e = omega (arith, e)
 counts_it_too {window} {at = at} {t = t} told same (passes {t = u} told' other more) e =
-    other (sym (ap (λ (v : Tile). v.number) (tile_once (next_told_once window at (tile t) (tile u) told told'))) ∙ same)
+    other (ap Some (sym same ∙ ap (λ (v : Tile). v.number) (tile_once (next_told_once window at (tile t) (tile u) told told'))))
 
 -- ---- fill and correct
 

@@ -1,6 +1,6 @@
 -- WHAT A READER MUST BELIEVE: what stands at a place of a window (SPEC 12.9), and what a search along it comes to (SPEC 12.3). Assumes
 -- nothing.
-use Rattle.std.specs.Prelude.{◌≡◌, Result, Ok, Err, Bool, true, false, List, ℕ, ◌+◌, ◌≤◌, ◌<◌, length, get_or}
+use Rattle.std.specs.Prelude.{◌≡◌, Result, Ok, Err, Option, Some, Bool, true, false, List, ℕ, ◌+◌, ◌≤◌, ◌<◌, length, get_or}
 use Rattle.code.specs.Tile.{tile_length}
 use Rattle.size.specs.Refusal.{number_of}
 use Rattle.size.specs.declared.Refusal.{Refusal}
@@ -26,13 +26,14 @@ pub data LookTold (window : List ℕ) (at : ℕ) : Bool → Result Tile NoTile �
   more_behind : NextTold window at end → LookTold window at false (Err no_tile.More)
   more_of_it : {from : ℕ} → NextTold window at (refused 7 from) → LookTold window at false (Err no_tile.More)
 
--- SPEC 12.3: a search is over where a tile has the number, and where no tile is looked at
-abbrev pub IsOver : ℕ → Result Tile NoTile → Type 0
-IsOver number (Ok t) = t.number ≡ number
-IsOver number (Err why) = Unit {0}
+-- SPEC 12.3: a search is over where a tile has the number that is wanted, if one is, and where no tile is looked at
+abbrev pub IsOver : Option ℕ → Result Tile NoTile → Type 0
+IsOver wanted (Ok t) = wanted ≡ Some t.number
+IsOver wanted (Err why) = Unit {0}
 
--- SPEC 12.3: SEEK. From a place on, behind so many tiles, a search passes each tile that has another number, and comes to what ends it
-pub data Seeks (window : List ℕ) (last : Bool) (number : ℕ) : ℕ → ℕ → Sought → Type 0 where
-  comes : {at n : ℕ} {s : Result Tile NoTile} → LookTold window at last s → IsOver number s → Seeks window last number at n (record { place = at; tiles = n; goal = s })
-  passes : {at n : ℕ} {t : Tile} {r : Sought} → NextTold window at (tile t) → (t.number ≡ number → ⊥)
-      → Seeks window last number (t.at + tile_length t.p) (n + 1) r → Seeks window last number at n r
+-- SPEC 12.3: SEEK. From a place on, behind so many tiles, a search passes each tile that has another number than the
+-- wanted one, each tile where none is wanted, and comes to what ends it
+pub data Seeks (window : List ℕ) (last : Bool) (wanted : Option ℕ) : ℕ → ℕ → Sought → Type 0 where
+  comes : {at n : ℕ} {s : Result Tile NoTile} → LookTold window at last s → IsOver wanted s → Seeks window last wanted at n (record { place = at; tiles = n; goal = s })
+  passes : {at n : ℕ} {t : Tile} {r : Sought} → NextTold window at (tile t) → (wanted ≡ Some t.number → ⊥)
+      → Seeks window last wanted (t.at + tile_length t.p) (n + 1) r → Seeks window last wanted at n r

@@ -4,8 +4,10 @@
 
 pub mod one;
 
-ghost use Rattle.std.specs.Prelude.{◌≡◌, ◌-◌, ◌≤◌, length, drop};
+ghost use Rattle.std.specs.Prelude.{◌≡◌, ◌+◌, ◌-◌, ◌^◌, ◌≤◌, ◌<◌, length, drop};
 ghost use Rattle.std.proofs.Math.Seq.{paste};
+ghost use Rattle.residue.specs.Size.{Size};
+ghost use Rattle.code.specs.Tile.{tile_length};
 ghost use Rattle.promise.specs.Answer.{restore_said};
 ghost use Rattle.window.specs.Window.{LookTold, Seeks};
 ghost use Rattle.window.specs.Treat.{Within, RestoredIn};
@@ -13,9 +15,10 @@ ghost use Rattle.window.specs.Treat.{Within, RestoredIn};
 use promise::Restored;
 use reel::{Found, Tile};
 use size::Refusal;
+use std::ops::Range;
 
 // What stands at a place of a window where no tile does: the end of the reel, a refusal with the offset at which the record begins, or more
-// of the reel is needed to say it.
+// of the reel is needed to say it. (A refusal and its offset stay two fields: `LookTold` and `windows_list` take them one by one.)
 #[derive(Clone, Copy)]
 pub enum NoTile {
     End,
@@ -39,18 +42,26 @@ pub fn look(window: &[u8], at: usize, last: bool) -> Result<Tile, NoTile>
     }
 }
 
+// The places that a tile's bytes have.
+fn places(tile: Tile) -> Range<usize>
+    requires size { Size tile.p }
+    requires bound { tile.at + tile_length tile.p < 2 ^ 64 }
+    ensures start { result.start ≡ tile.at }
+    ensures end { result.end ≡ tile.at + tile_length tile.p }
+{
+    tile.at..tile.behind()
+}
+
 // Restores a tile where it stands.
 pub fn restore(window: &mut [u8], tile: Tile) -> Result<Restored, Refusal>
     requires { Within window.old tile }
     ensures { RestoredIn window.old tile (restore_said result) window.new }
 {
-    let start = tile.at;
-    let end = tile.behind();
     restorer::restore(
         tile.kind,
         tile.p,
         tile.l,
-        &mut window[start..end],
+        &mut window[places(tile)],
         tile.first,
         tile.second,
     )
@@ -64,17 +75,18 @@ pub struct Sought {
     pub goal: Result<Tile, NoTile>,
 }
 
-// Looks for the first tile with a number, from a place on, behind so many tiles.
-pub fn seek(window: &[u8], from: usize, last: bool, tiles: usize, number: usize) -> Sought
+// Looks for the first tile with the number that is wanted, if one is, from a place on, behind so many tiles. (A loop with places by hand:
+// each step begins where the tile before it ends, which only that tile's header says; and `Seeks` wants the place and the count too.)
+pub fn seek(window: &[u8], from: usize, last: bool, tiles: usize, wanted: Option<usize>) -> Sought
     requires { tiles ≤ 100000000000000000 }
-    ensures { Seeks window.now last number from tiles result }
+    ensures { Seeks window.now last wanted from tiles result }
 {
     let mut place = from;
     let mut passed = tiles;
     loop {
         let goal = look(window, place, last);
         match goal {
-            Ok(tile) if tile.number != number => {
+            Ok(tile) if wanted != Some(tile.number) => {
                 place = tile.behind();
                 passed += 1;
             }

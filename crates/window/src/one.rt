@@ -4,6 +4,7 @@ ghost use Rattle.promise.specs.Answer.{outcome_said, restore_said};
 ghost use Rattle.sheet.specs.Answer.{corrected_said};
 ghost use Rattle.window.specs.Treat.{TileTold, RestoresAt, FillsAt, CorrectsAt, ReadsAt};
 
+use crate::places;
 use code::Line;
 use promise::Restored;
 use reel::{Found, Tile};
@@ -34,9 +35,7 @@ pub fn fill(window: &mut [u8], at: usize, a: Line, b: Line) -> Result<(), Refusa
     ensures { FillsAt a b window.old at (outcome_said result) window.new }
 {
     let tile = tile_at(window, at)?;
-    let start = tile.at;
-    let end = tile.behind();
-    filler::fill(tile.kind, tile.p, tile.l, &mut window[start..end], a, b)
+    filler::fill(tile.kind, tile.p, tile.l, &mut window[places(tile)], a, b)
 }
 
 // Corrects the tile at a place by a sheet.
@@ -44,9 +43,7 @@ pub fn correct(window: &mut [u8], at: usize, sheet: &[u8]) -> Result<usize, Faul
     ensures { CorrectsAt sheet.now window.old at (corrected_said result) window.new }
 {
     let tile = tile_at(window, at)?;
-    let start = tile.at;
-    let end = tile.behind();
-    sheet::correct(tile.kind, tile.p, tile.l, &mut window[start..end], sheet)
+    sheet::correct(tile.kind, tile.p, tile.l, &mut window[places(tile)], sheet)
 }
 
 // Reads the text of the tile at a place, which has to be good, into a room of its length.
@@ -54,7 +51,5 @@ pub fn read(window: &[u8], at: usize, text: &mut [u8]) -> Result<(), Refusal>
     ensures { ReadsAt window.now at text.old (outcome_said result) text.new }
 {
     let tile = tile_at(window, at)?;
-    let start = tile.at;
-    let end = tile.behind();
-    writer::read(tile.kind, tile.p, tile.l, &window[start..end], text)
+    writer::read(tile.kind, tile.p, tile.l, &window[places(tile)], text)
 }

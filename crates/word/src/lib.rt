@@ -12,7 +12,8 @@ use code::Kind;
 use header::Mark;
 use size::Refusal;
 
-// The kinds of an answer. Done stands for clean and for a tile too. (Numbers, since include/counterfrost.h has the same ones.)
+// The kinds of an answer. Done stands for clean and for a tile too. (Numbers, and no enum of answers: `word` promises the word of a kind
+// and two numbers, as SPEC 11.1 has it, and which numbers these are only the calls know.)
 pub const DONE: u16 = 0;
 
 pub const COLUMN: u16 = 1;
@@ -71,7 +72,8 @@ pub fn version() -> u64
     800
 }
 
-// The kind that a number stands for: 1 is old, and every other one new, the stricter of the two.
+// The kind that a number stands for: 1 is old, and every other one new, the stricter of the two. (This and the next two are functions, and
+// no `From`: `Kind` and `Mark` are other crates' types, and these numbers are C's alone.)
 #[tactic(auto, unfolding(crate::specs::Word::tile_kind))]
 pub fn kind(n: usize) -> Kind
     ensures { result ≡ spec.tile_kind n }

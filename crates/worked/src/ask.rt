@@ -2,18 +2,18 @@
 // `script`.
 use script::answer;
 use script::look::look;
-use script::question::Told;
+use script::question::Question;
 
 // `held` may be changed by a call, `lent` is only read.
-pub fn ask(rt: &HostRuntime, told: Told, held: &mut [u8], lent: &[u8]) {
-    let Told {
+pub fn ask(rt: &HostRuntime, question: Question, held: &mut [u8], lent: &[u8]) {
+    let Question {
         name,
         kind,
         p,
         l,
         first,
         second,
-    } = told;
+    } = question;
     match name {
         b'w' => answer::outcome(rt, tile::write(kind, p, l, lent, held)),
         b'r' => answer::outcome(rt, tile::read(kind, p, l, lent, held)),
@@ -23,6 +23,6 @@ pub fn ask(rt: &HostRuntime, told: Told, held: &mut [u8], lent: &[u8]) {
         b'f' => answer::outcome(rt, tile::fill(kind, p, l, held, first, second)),
         b'a' => answer::outcome(rt, tile::judge(p, l, lent, held, first, second)),
         b'c' => answer::corrected(rt, sheet::correct(kind, p, l, held, lent)),
-        _ => look(rt, name, kind, p, l, held),
+        _ => look(rt, question, held),
     }
 }

@@ -27,7 +27,7 @@ fn run(rt: &HostRuntime, script: &[u8]) {
 // Does what a line asks, if it is a question. Behind its columns stand the bytes that the call may change, and behind a second colon those
 // that it only reads.
 fn obey(rt: &HostRuntime, line: &[u8]) {
-    let Some(told) = question::read(line) else {
+    let Some(asked) = question::read(line) else {
         return;
     };
     let signs = &line[question::COLUMNS..];
@@ -41,6 +41,6 @@ fn obey(rt: &HostRuntime, line: &[u8]) {
     let held = question::lay(held, &mut first);
     let lent = question::lay(lent, &mut second);
     answer::words(rt, b"\n ");
-    ask::ask(rt, told, held, lent);
+    ask::ask(rt, asked, held, lent);
     answer::bytes(rt, held);
 }

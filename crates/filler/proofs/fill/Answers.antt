@@ -1,17 +1,17 @@
 -- `filler::fill` meets its contract.
 use mathlib.Core.Path.{◌∙◌}
 use native.Mathlib.Omega.{arith}
-use Rattle.std.proofs.lemmas.Result.{err_from_is_err_and}
 use Rattle.code.specs.Says.{says_true, says_false}
 use Rattle.code.specs.Held.{held}
+use Rattle.size.specs.Passed.{passed_on}
 use Rattle.promise.specs.Calls.{refuses, no_line}
-use Rattle.promise.specs.Admit.{admitted_well, slope_of_lem}
+use Rattle.promise.specs.Admit.{admitted_well, lattice_of}
 use Rattle.filler.specs.Filled.{ends_filled, ends_unfilled}
 use Rattle.filler.proofs.fill.Goals as goal
 
 pub invariant_of-solve : goal.invariant_of-solve
 invariant_of-solve c =
-    let a = c.in_ok-judge_tile.ensures in record { slope = slope_of_lem a; high = (admitted_well a).0.high }
+    lattice_of c.in_ok-judge_tile.ensures
 
 pub solve-requires : goal.solve-requires
 solve-requires c =
@@ -33,13 +33,11 @@ add_line-requires-2 c =
 
 pub returns-in_err-judge_tile : goal.returns-in_err-judge_tile
 returns-in_err-judge_tile c =
-    let e = err_from_is_err_and c.from_residual.result c.from_residual.ensures.1 in
-    rw (e.1, e.2) (refuses c.in_err-judge_tile.ensures)
+    rw (passed_on c.from_residual.ensures.1) (refuses c.in_err-judge_tile.ensures)
 
 pub returns-in_err-solve : goal.returns-in_err-solve
 returns-in_err-solve c =
-    let e = err_from_is_err_and c.from_residual-in_err-solve.result c.from_residual-in_err-solve.ensures.1 in
-    rw (e.1, e.2) (ends_unfilled c.args.kind c.args.p c.args.l c.args.first c.args.second (held c.solve.new.x) (held c.solve.new.y) c.args.tile.now
+    rw (passed_on c.from_residual-in_err-solve.ensures.1) (ends_unfilled c.args.kind c.args.p c.args.l c.args.first c.args.second (held c.solve.new.x) (held c.solve.new.y) c.args.tile.now
     c.in_ok-judge_tile.ensures (says_true c.has_both.ensures c.if-not-has_both.false) c.in_err-solve.ensures)
 
 pub returns : goal.returns

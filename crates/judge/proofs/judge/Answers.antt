@@ -1,19 +1,18 @@
 -- `judge::judge` meets its contract. Where the lengths are judged to be right the call is admitted; then the tiles have the lines; and then
 -- the restored one is good.
-use Rattle.std.proofs.lemmas.Result.{err_from_is_err_and}
 use Rattle.std.proofs.Common.{arith}
 use Rattle.code.specs.Tile.{Good}
 use Rattle.code.specs.Says.{says_true, says_false}
 use Rattle.code.specs.declared.Kind.TheVariants.{New}
 use Rattle.size.specs.Answer as size
+use Rattle.size.specs.Passed.{passed_on}
 use Rattle.promise.specs.Calls.{Admitted, TwoLengths, Has, refuses, no_line, not_good, elsewhere, accepts}
-use Rattle.promise.specs.Admit.{admitted_well, slope_of_lem}
+use Rattle.promise.specs.Admit.{admitted_well, shape_of}
 use Rattle.judge.proofs.judge.Goals as goal
 
 pub returns-in_err-judge_lengths : goal.returns-in_err-judge_lengths
 returns-in_err-judge_lengths c =
-    let e = err_from_is_err_and c.from_residual.result c.from_residual.ensures.1 in
-    rw (e.1, e.2) (refuses c.in_err-judge_lengths.ensures)
+    rw (passed_on c.from_residual.ensures.1) (refuses c.in_err-judge_lengths.ensures)
 
 pub returns-then-not-has_both : goal.returns-then-not-has_both
 returns-then-not-has_both c =
@@ -25,9 +24,7 @@ pub is_good-requires : goal.is_good-requires
 is_good-requires c =
     let a = c.args in
     let lengths : Admitted New a.p a.l (TwoLengths a.p a.scan.now a.restored.now) size.well = c.in_ok-judge_lengths.ensures in
-    let w = admitted_well lengths in
-    let slope = slope_of_lem lengths in
-    record { prime = w.0.prime; high = w.0.high; positive = omega (arith, slope.low); slope = omega (arith, slope.high); size = w.2.1 }
+    shape_of lengths (admitted_well lengths).2.1
 
 pub returns-then-not-is_good : goal.returns-then-not-is_good
 returns-then-not-is_good c =

@@ -1,22 +1,21 @@
 -- `mender::recover` meets its contract.
 use Rattle.std.proofs.Common.{refl, ap, ◌∙◌, arith, length, Ok}
-use Rattle.std.proofs.lemmas.Result.{err_from_is_err_and}
 use Rattle.code.specs.Place.{text_length_lem}
 use Rattle.cells.specs.Change.{changed_added, text_added}
+use Rattle.size.specs.Passed.{passed_on}
 use Rattle.promise.specs.Calls.{RecoverTold}
-use Rattle.promise.specs.Admit.{admitted_well, slope_of_lem}
+use Rattle.promise.specs.Admit.{admitted_well, lattice_of}
 use Rattle.mender.specs.Mended.{line_in, one_in, told_unclear, recover_ends}
 use Rattle.mender.proofs.recover.Goals as goal
 use Rattle.mender.proofs.recover.Goals.{in-Some, in_default}
 
 pub returns-in_err-judge_text : goal.returns-in_err-judge_text
 returns-in_err-judge_text c =
-    let e = err_from_is_err_and c.from_residual.result c.from_residual.ensures.1 in
-    rw (e.1, e.2) (RecoverTold.refuses c.in_err-judge_text.ensures)
+    rw (passed_on c.from_residual.ensures.1) (RecoverTold.refuses c.in_err-judge_text.ensures)
 
 pub invariant_of-find : goal.invariant_of-find
 invariant_of-find c =
-    let a = c.in_ok-judge_text.ensures in record { slope = slope_of_lem a; high = (admitted_well a).0.high }
+    lattice_of c.in_ok-judge_text.ensures
 
 pub find-requires : goal.find-requires
 find-requires c =
@@ -24,9 +23,7 @@ find-requires c =
 
 pub returns-in_err-hurt : goal.returns-in_err-hurt
 returns-in_err-hurt c =
-    let r = c.from_residual-in_err-hurt in
-    let e = err_from_is_err_and r.result r.ensures.1 in
-    rw (e.1, e.2) (recover_ends _ _ _ _ _ _ c.in_ok-judge_text.ensures c.in_err-hurt.ensures (told_unclear _ _ _) refl)
+    rw (passed_on c.from_residual-in_err-hurt.ensures.1) (recover_ends _ _ _ _ _ _ c.in_ok-judge_text.ensures c.in_err-hurt.ensures (told_unclear _ _ _) refl)
 
 pub take-requires : goal.take-requires
 take-requires c =

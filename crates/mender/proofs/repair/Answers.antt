@@ -1,21 +1,20 @@
 -- `mender::repair` meets its contract.
 use Rattle.std.proofs.Common.{ap, ◌∙◌, arith, Ok}
-use Rattle.std.proofs.lemmas.Result.{err_from_is_err_and}
 use Rattle.cells.specs.Change.{added_changed}
+use Rattle.size.specs.Passed.{passed_on}
 use Rattle.promise.specs.Calls.{refuses}
-use Rattle.promise.specs.Admit.{admitted_well, slope_of_lem}
+use Rattle.promise.specs.Admit.{admitted_well, lattice_of}
 use Rattle.mender.specs.Mended.{line_in, one_in, told_unclear, repair_ends}
 use Rattle.mender.proofs.repair.Goals as goal
 use Rattle.mender.proofs.repair.Goals.{in-Some, in_default}
 
 pub returns-in_err-judge_tile : goal.returns-in_err-judge_tile
 returns-in_err-judge_tile c =
-    let e = err_from_is_err_and c.from_residual.result c.from_residual.ensures.1 in
-    rw (e.1, e.2) (refuses c.in_err-judge_tile.ensures)
+    rw (passed_on c.from_residual.ensures.1) (refuses c.in_err-judge_tile.ensures)
 
 pub invariant_of-find : goal.invariant_of-find
 invariant_of-find c =
-    let a = c.in_ok-judge_tile.ensures in record { slope = slope_of_lem a; high = (admitted_well a).0.high }
+    lattice_of c.in_ok-judge_tile.ensures
 
 pub find-requires : goal.find-requires
 find-requires c =
@@ -23,9 +22,7 @@ find-requires c =
 
 pub returns-in_err-hurt : goal.returns-in_err-hurt
 returns-in_err-hurt c =
-    let r = c.from_residual-in_err-hurt in
-    let e = err_from_is_err_and r.result r.ensures.1 in
-    rw (e.1, e.2) (repair_ends _ _ _ _ _ c.in_ok-judge_tile.ensures c.in_err-hurt.ensures (told_unclear _ _ _))
+    rw (passed_on c.from_residual-in_err-hurt.ensures.1) (repair_ends _ _ _ _ _ c.in_ok-judge_tile.ensures c.in_err-hurt.ensures (told_unclear _ _ _))
 
 pub add_line-requires : goal.add_line-requires
 add_line-requires c =

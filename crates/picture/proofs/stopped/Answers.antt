@@ -11,7 +11,7 @@ use Rattle.picture.proofs.stopped.Goals.{in-Lines, in-Squares, in-Signs}
 pub returns : goal.returns
 unfolding stopped_shown
 returns c =
-    let all : PutOn 4096 c.new-page.result (stopped_shown c.args.form c.args.tally (number_of c.args.no) c.args.offset) c.match-form.page =
+    let all : PutOn 4096 c.new-page.result (stopped_shown c.args.form c.args.tally (number_of c.args.refusal) c.args.offset) c.match-form.page =
     elim c.match-form.branch [
       | in-Lines w ↦
           rw (w.in-Lines.is, w.page-is)

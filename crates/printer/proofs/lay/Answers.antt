@@ -1,7 +1,7 @@
 -- `printer::lay` meets its contract. The kind, the size, the slope and the length are judged to be right; then the flags can be carried, so
 -- that the record may be laid; of the header's bytes those are copied that count.
 use Rattle.std.proofs.Common.{arith}
-use Rattle.std.proofs.lemmas.Result.{err_from_is_err_and}
+use Rattle.size.specs.Passed.{passed_on}
 use Rattle.header.specs.Record.{Fit}
 use Rattle.header.specs.Laid.{fit_fits}
 use Rattle.printer.specs.Lay.{refuses, no_line, no_room}
@@ -10,8 +10,7 @@ use Rattle.printer.proofs.lay.Goals as goal
 
 pub returns-in_err-judge_tile : goal.returns-in_err-judge_tile
 returns-in_err-judge_tile c =
-    let e = err_from_is_err_and c.from_residual.result c.from_residual.ensures.1 in
-    rw (e.1, e.2) (refuses (rw c.kind.ensures at c.in_err-judge_tile.ensures))
+    rw (passed_on c.from_residual.ensures.1) (refuses (rw c.kind.ensures at c.in_err-judge_tile.ensures))
 
 pub returns-then-not-carries : goal.returns-then-not-carries
 returns-then-not-carries c =

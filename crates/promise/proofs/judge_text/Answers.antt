@@ -1,14 +1,13 @@
 -- `promise::judge_text` meets its contract.
 use Rattle.std.proofs.Common.{sym, ◌∙◌}
-use Rattle.std.proofs.lemmas.Result.{err_from_is_err_and}
+use Rattle.size.specs.Passed.{passed_on}
 use Rattle.promise.specs.Calls.{no_length, admitted}
 use Rattle.promise.specs.Admit.{admitted_well, admitted_judged, admitted_more}
 use Rattle.promise.proofs.judge_text.Goals as goal
 
 pub returns-in_err-judge_tile : goal.returns-in_err-judge_tile
 returns-in_err-judge_tile c =
-    let e = err_from_is_err_and c.from_residual.result c.from_residual.ensures.1 in
-    rw (e.1, e.2) (admitted_more (λ h. h.0) c.in_err-judge_tile.ensures)
+    rw (passed_on c.from_residual.ensures.1) (admitted_more (λ h. h.0) c.in_err-judge_tile.ensures)
 
 pub text_length-requires : goal.text_length-requires
 text_length-requires c = (admitted_well c.in_ok-judge_tile.ensures).0

@@ -1,13 +1,12 @@
 -- `promise::judge_tile` meets its contract.
 use Rattle.std.proofs.Common.{sym, ◌∙◌}
-use Rattle.std.proofs.lemmas.Result.{err_from_is_err_and}
+use Rattle.size.specs.Passed.{passed_on}
 use Rattle.promise.specs.Calls.{judged, no_length, admitted}
 use Rattle.promise.proofs.judge_tile.Goals as goal
 
 pub returns-in_err-judge : goal.returns-in_err-judge
 returns-in_err-judge c =
-    let e = err_from_is_err_and c.from_residual.result c.from_residual.ensures.1 in
-    rw (e.1, e.2) (judged c.in_err-judge.ensures)
+    rw (passed_on c.from_residual.ensures.1) (judged c.in_err-judge.ensures)
 
 pub returns-then-cells-tile_length : goal.returns-then-cells-tile_length
 returns-then-cells-tile_length c = admitted c.in_ok-judge.ensures (c.if-cells-tile_length.true ∙ c.tile_length.ensures)

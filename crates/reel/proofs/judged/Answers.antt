@@ -1,17 +1,16 @@
 -- `reel::judged` meets its contract: the tests stand in the order of the refusals.
 use Rattle.std.proofs.Common.{◌+◌, ap, arith}
-use Rattle.std.proofs.lemmas.Result.{err_from_is_err_and}
 use Prim.Native.Nat.{ℕ}
 use Rattle.code.specs.Says.{says_true, says_false}
 use Rattle.size.specs.Told.{judged_well}
+use Rattle.size.specs.Passed.{passed_on}
 use Rattle.reel.specs.Calls.{refuses, no_line, tile_cut}
 use Rattle.reel.specs.Told.{stands_told}
 use Rattle.reel.proofs.judged.Goals as goal
 
 pub returns-in_err-judge : goal.returns-in_err-judge
 returns-in_err-judge c =
-    let p = err_from_is_err_and c.from_residual.result c.from_residual.ensures.1 in
-    rw (p.1, p.2) (refuses (rw c.kind-kind.ensures at c.in_err-judge.ensures))
+    rw (passed_on c.from_residual.ensures.1) (refuses (rw c.kind-kind.ensures at c.in_err-judge.ensures))
 
 pub returns-then-not-carries : goal.returns-then-not-carries
 returns-then-not-carries c =

@@ -1,17 +1,16 @@
 -- `size::judge` meets its contract: the table tells a size and its house slope, and the kind any other slope.
 use Rattle.std.proofs.Common.{sym, ◌∙◌}
 use Rattle.std.proofs.lemmas.Bool.{eqb-false}
-use Rattle.std.proofs.lemmas.Result.{err_from_is_err_and}
 use Rattle.size.specs.Answer.{taken, no_slope}
 use Rattle.code.specs.Says.{says_true, says_false}
+use Rattle.size.specs.Passed.{passed_on}
 use Rattle.size.specs.Told.{given_size, house_taken, house_refused}
 use Rattle.size.proofs.judge.Goals as goal
 use Rattle.size.proofs.judge.Goals.{then-l-house, else-l-house}
 
 pub returns-in_err-house : goal.returns-in_err-house
 returns-in_err-house c =
-    let p = err_from_is_err_and c.from_residual.result c.from_residual.ensures.1 in
-    rw (p.1, p.2) (house_refused c.in_err-house.ensures)
+    rw (passed_on c.from_residual.ensures.1) (house_refused c.in_err-house.ensures)
 
 pub returns-then-takes : goal.returns-then-takes
 returns-then-takes c =

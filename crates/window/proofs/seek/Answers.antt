@@ -1,9 +1,9 @@
 -- `window::seek` meets its contract: each tile that it passes shortens what is left.
-use Rattle.std.proofs.Common.{arith}
+use Rattle.std.proofs.Common.{arith, rules}
 use Rattle.reel.specs.Told.{tile_taken, tile_within}
 use Rattle.reel.specs.Walks.{moves_on}
 use Rattle.window.specs.Window.{comes}
-use Rattle.window.specs.Going.{seeking_on, looked_tile}
+use Rattle.window.specs.Going.{seeking_on, looked_tile, other_number, wanted_number}
 use Rattle.window.proofs.seek.Goals as goal
 
 pub behind-place-requires : goal.behind-place-requires
@@ -26,11 +26,12 @@ loop-tile-smaller c =
 
 pub loop-tile-preserved : goal.loop-tile-preserved
 loop-tile-preserved c =
-    rw c.behind-place.ensures (seeking_on c.loop-tile.invariant (looked_tile c.in-Ok.ensures) c.if-tile-number.true)
+    rw c.behind-place.ensures (seeking_on c.loop-tile.invariant (looked_tile c.in-Ok.ensures)
+    (other_number _ _ (search rules)))
 
 pub returns-in_default : goal.returns-in_default
 returns-in_default c =
-    c.loop-tile.invariant.so_far _ (comes c.in-Ok.ensures c.if-tile-number.false)
+    c.loop-tile.invariant.so_far _ (comes c.in-Ok.ensures (wanted_number _ _ (search rules)))
 
 pub returns-in_default-2 : goal.returns-in_default-2
 returns-in_default-2 c =

@@ -4,7 +4,7 @@ use Rattle.window.specs.Going.{Seeking}
 use Rattle.window.proofs.seek.Given as goal
 
 abbrev pub invariant-loop-tile : goal.invariant-loop-tile
-invariant-loop-tile l = Seeking l.window l.last l.number l.from l.tiles l.place l.passed
+invariant-loop-tile l = Seeking l.window l.last l.wanted l.from l.tiles l.place l.passed
 
 abbrev pub decreases-loop-tile : goal.decreases-loop-tile
 decreases-loop-tile l = length l.window - l.place

@@ -1,16 +1,15 @@
 -- `writer::read` meets its contract.
 use native.Mathlib.Omega.{arith}
-use Rattle.std.proofs.lemmas.Result.{err_from_is_err_and}
 use Rattle.code.specs.Says.{says_true, says_false}
+use Rattle.size.specs.Passed.{passed_on}
 use Rattle.promise.specs.Calls.{refuses, not_good, reads}
-use Rattle.promise.specs.Admit.{admitted_well, slope_of_lem}
+use Rattle.promise.specs.Admit.{admitted_well, shape_of}
 use Rattle.writer.proofs.read.Goals as goal
 
 pub is_good-requires : goal.is_good-requires
 is_good-requires c =
     let a = c.in_ok-judge_text.ensures in
-    let w = admitted_well a in
-    record { prime = w.0.prime; high = w.0.high; positive = omega (arith, (slope_of_lem a).low); slope = omega (arith, (slope_of_lem a).high); size = w.2.0 }
+    shape_of a (admitted_well a).2.0
 
 pub take-requires : goal.take-requires
 take-requires c =
@@ -19,8 +18,7 @@ take-requires c =
 
 pub returns-in_err-judge_text : goal.returns-in_err-judge_text
 returns-in_err-judge_text c =
-    let e = err_from_is_err_and c.from_residual.result c.from_residual.ensures.1 in
-    rw (e.1, e.2) (refuses c.in_err-judge_text.ensures)
+    rw (passed_on c.from_residual.ensures.1) (refuses c.in_err-judge_text.ensures)
 
 pub returns : goal.returns
 returns c =

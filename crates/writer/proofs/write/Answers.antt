@@ -1,11 +1,11 @@
 -- `writer::write` meets its contract.
 use mathlib.Core.Path.{◌∙◌}
 use native.Mathlib.Omega.{arith}
-use Rattle.std.proofs.lemmas.Result.{err_from_is_err_and}
 use Rattle.code.specs.Held.{held}
 use Rattle.chain.specs.Cases.{held_totals}
+use Rattle.size.specs.Passed.{passed_on}
 use Rattle.promise.specs.Calls.{refuses}
-use Rattle.promise.specs.Admit.{admitted_well, slope_of_lem}
+use Rattle.promise.specs.Admit.{admitted_well, lattice_of, shape_of}
 use Rattle.writer.specs.Written.{ends_written}
 use Rattle.writer.proofs.write.Goals as goal
 
@@ -17,21 +17,11 @@ lay-requires c =
 pub both_sums-requires : goal.both_sums-requires
 both_sums-requires c =
     let a = c.in_ok-judge_text.ensures in
-    let w = admitted_well a in
-    let slope = slope_of_lem a in
-    record {
-      shape = record {
-        prime = w.0.prime;
-        high = w.0.high;
-        positive = omega (arith, slope.low);
-        slope = omega (arith, slope.high);
-        size = c.lay.ensures.size ∙ w.2.0;
-      };
-    }
+    record { shape = shape_of a (c.lay.ensures.size ∙ (admitted_well a).2.0) }
 
 pub invariant_of-settle : goal.invariant_of-settle
 invariant_of-settle c =
-    let a = c.in_ok-judge_text.ensures in record { slope = slope_of_lem a; high = (admitted_well a).0.high }
+    lattice_of c.in_ok-judge_text.ensures
 
 pub settle-requires : goal.settle-requires
 settle-requires c =
@@ -43,8 +33,7 @@ settle-requires c =
 
 pub returns-in_err-judge_text : goal.returns-in_err-judge_text
 returns-in_err-judge_text c =
-    let e = err_from_is_err_and c.from_residual.result c.from_residual.ensures.1 in
-    rw (e.1, e.2) (refuses c.in_err-judge_text.ensures)
+    rw (passed_on c.from_residual.ensures.1) (refuses c.in_err-judge_text.ensures)
 
 pub returns : goal.returns
 returns c =

@@ -6,8 +6,8 @@ use Rattle.chain.specs.Solve.{one}
 use Rattle.chain.specs.Cases.{columns_close}
 use Rattle.chain.proofs.filling.columns.Goals as goal
 
-pub paired-requires-clause-closes : goal.paired-requires-clause-closes
-paired-requires-clause-closes c =
+pub solve-requires-clause-closes : goal.solve-requires-clause-closes
+solve-requires-clause-closes c =
     let sums = c.args.sums.now in
     columns_close sums.lattice.p sums.lattice.l _ _ sums.lattice.slope c.args.u c.args.v (omega arith) (omega arith) c.if-u-v.false sums.one_total
 
@@ -17,4 +17,4 @@ returns-then-u-v c =
 
 pub returns-else-u-v : goal.returns-else-u-v
 returns-else-u-v c =
-    one (inl tt) c.paired.ensures
+    one (inl tt) c.solve.ensures

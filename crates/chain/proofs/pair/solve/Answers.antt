@@ -7,10 +7,11 @@ use Rattle.chain.proofs.pair.solve.Goals as goal
 
 pub returns : goal.returns
 returns c =
-    let pair = c.args.pair in
-    chain_settled pair.lattice.p pair.lattice.l pair.column pair.line _ _ (held (replicate 257 0)) _ _ _ _
-    pair.lattice.slope c.requires.closes c.requires.column_lt c.requires.line_lt (zeros_held 257)
-    (along_line pair.lattice.p (held c.args.a.now) pair.line _
+    let a = c.args in
+    let sums = a.sums.now in
+    chain_settled sums.lattice.p sums.lattice.l a.column a.line _ _ (held (replicate 257 0)) _ _ _ _
+    sums.lattice.slope c.requires.closes c.requires.column_lt c.requires.line_lt (zeros_held 257)
+    (along_line sums.lattice.p (held sums.a.now) a.line _
     (rw c.number.ensures at c.along.ensures))
     (rw (c.number-2.ensures, c.through-base.ensures.0, c.weight.ensures, c.hops.ensures)
     at c.to_line.ensures)

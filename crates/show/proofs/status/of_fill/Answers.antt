@@ -10,4 +10,4 @@ returns-in-BadPlace c =
 
 pub returns-in_default : goal.returns-in_default
 returns-in_default c =
-    no_filling (only_place c.args.no c.in_default.not-BadPlace)
+    no_filling (only_place c.args.refusal c.in_default.not-BadPlace)

@@ -12,11 +12,11 @@ returns-in_err-tile c =
     let e = err_from_is_err_and c.from_residual.result c.from_residual.ensures.1 in
     rw (e.1, e.2) (refused_there _ _ _ _ _ _ _ c.in_err-tile.ensures)
 
-pub behind-end-requires-clause-size : goal.behind-end-requires-clause-size
-behind-end-requires-clause-size c =
+pub places-requires-clause-size : goal.places-requires-clause-size
+places-requires-clause-size c =
     (tile_taken c.in_ok-tile.ensures).0
 
 pub returns : goal.returns
 returns c =
     let told = c.in_ok-tile.ensures in
-    placed refused (λ t bytes said new. FillTold t.kind t.p t.l bytes _ _ said new × (length new ≡ length bytes)) _ _ told _ _ _ c.behind-end.ensures (search rules) (c.fill.ensures, search rules)
+    placed refused (λ t bytes said new. FillTold t.kind t.p t.l bytes _ _ said new × (length new ≡ length bytes)) _ _ told _ _ _ _ c.places.ensures.start c.places.ensures.end (search rules) (c.fill.ensures, search rules)

@@ -11,11 +11,11 @@ returns-in_err-tile c =
     let e = err_from_is_err_and c.from_residual.result c.from_residual.ensures.1 in
     rw (e.1, e.2) (refused_there _ _ _ _ _ _ _ c.in_err-tile.ensures)
 
-pub behind-end-requires-clause-size : goal.behind-end-requires-clause-size
-behind-end-requires-clause-size c =
+pub places-requires-clause-size : goal.places-requires-clause-size
+places-requires-clause-size c =
     (tile_taken c.in_ok-tile.ensures).0
 
 pub returns : goal.returns
 returns c =
     let told = c.in_ok-tile.ensures in
-    there told (rw (c.behind-end.ensures, add-sub_cancel_left _ _) at c.read.ensures)
+    there told (rw (c.places.ensures.start, c.places.ensures.end, add-sub_cancel_left _ _) at c.read.ensures)

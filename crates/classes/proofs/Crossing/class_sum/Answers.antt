@@ -1,4 +1,4 @@
--- `classes::class_sum` meets its contract. The loop's invariant: q is the offset that comes next, and the sum is that of the offsets before it.
+-- `classes::Crossing::class_sum` meets its contract. The loop's invariant: q is the offset that comes next, and the sum is that of the offsets before it.
 use mathlib.Core.Path.{sym, ap, ◌∙◌}
 use Prim.Native.Nat.{ℕ, ◌*◌, ◌%◌}
 use native.Mathlib.Nat.{mod-lt}
@@ -7,7 +7,7 @@ use Rattle.residue.specs.Power.{spun_first, spun_next}
 use Rattle.code.specs.Classes.{class_none}
 use Rattle.code.specs.Held.{held}
 use Rattle.classes.specs.Step.{class_step}
-use Rattle.classes.proofs.class_sum.Goals as goal
+use Rattle.classes.proofs.Crossing.class_sum.Goals as goal
 
 pub loop-init : goal.loop-init
 loop-init c =
@@ -15,9 +15,9 @@ loop-init c =
 
 pub loop-preserved : goal.loop-preserved
 loop-preserved c =
-    let a = c.args in
+    let s = c.args.self.now in
     let loop = c.loop in record {
       lt = mod-lt _ (omega arith);
-      is = ap (λ (x : ℕ). a.lattice.l * x % a.lattice.p) loop.invariant.is ∙ sym (spun_next a.lattice.p a.lattice.l a.o loop.counter);
-      summed = class_step a.lattice.p a.lattice.l loop.counter (held a.a.now) (held a.b.now) a.s a.t a.o loop.q loop.sum loop.invariant.is loop.invariant.summed;
+      is = ap (λ (x : ℕ). s.lattice.l * x % s.lattice.p) loop.invariant.is ∙ sym (spun_next s.lattice.p s.lattice.l c.args.o loop.counter);
+      summed = class_step s.lattice.p s.lattice.l loop.counter (held s.a.now) (held s.b.now) s.row s.column c.args.o loop.q loop.sum loop.invariant.is loop.invariant.summed;
     }

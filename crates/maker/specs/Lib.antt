@@ -1,0 +1,2 @@
+-- A new reel of texts: what a size gives.
+pub mod Plan
