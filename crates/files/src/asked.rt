@@ -54,7 +54,7 @@ fn all(rt: &HostRuntime, verb: Verb) -> Result<Asked, Told> {
 fn taken(rt: &HostRuntime, verb: Verb, word: &Word) -> Result<Sort, Told> {
     match words::sort_of(word.bytes()) {
         Some(sort) if verb.takes(sort) => Ok(sort),
-        _ => Err(guide::wrong_option(rt, verb, word.bytes())),
+        _ => Err(guide::wrong_option(rt, Some(verb), word.bytes())),
     }
 }
 
@@ -62,11 +62,11 @@ fn taken(rt: &HostRuntime, verb: Verb, word: &Word) -> Result<Sort, Told> {
 pub fn words(rt: &HostRuntime, verb: Verb) -> Result<Asked, Told> {
     let asked = all(rt, verb)?;
     if asked.plain < verb.fewest() {
-        return Err(guide::too_few(rt, verb));
+        return Err(guide::too_few(rt, Some(verb)));
     }
     if asked.plain > verb.most() {
         let first = word(rt, verb.most())?;
-        return Err(guide::too_many(rt, verb, first.bytes()));
+        return Err(guide::too_many(rt, Some(verb), first.bytes()));
     }
     Ok(asked)
 }
@@ -97,8 +97,8 @@ pub fn word(rt: &HostRuntime, k: usize) -> Result<Word, Told> {
 pub fn number(rt: &HostRuntime, verb: Verb, k: usize) -> Result<usize, Told> {
     let word = word(rt, k)?;
     words::number(word.bytes()).map_err(|why| match why {
-        NoNumber::TooLarge => guide::wrong(rt, verb, word.bytes(), ": above 4294967295"),
-        NoNumber::NotDigits => guide::wrong(rt, verb, word.bytes(), ": no number"),
+        NoNumber::TooLarge => guide::wrong(rt, Some(verb), word.bytes(), b": above 4294967295"),
+        NoNumber::NotDigits => guide::wrong(rt, Some(verb), word.bytes(), b": no number"),
     })
 }
 

@@ -59,43 +59,46 @@ fn guide_of(verb: Verb) -> Guide {
     }
 }
 
-// How a command goes, behind what was wrong with it.
-pub fn goes(rt: &HostRuntime, verb: Verb) -> Told {
-    it_goes(rt, guide_of(verb).goes)
-}
-
-fn it_goes(rt: &HostRuntime, how: &str) -> Told {
+// How a command goes, behind what was wrong with it; where none is named, how all of them do.
+pub fn goes(rt: &HostRuntime, verb: Option<Verb>) -> Told {
+    let how = match verb {
+        Some(verb) => guide_of(verb).goes,
+        None => GOES,
+    };
     say::line(rt, format_args!("it goes: {how}"))
 }
 
 pub fn no_command(rt: &HostRuntime) -> Told {
     say::line(rt, "no command is named");
-    it_goes(rt, GOES)
+    goes(rt, None)
 }
 
 pub fn not_a_command(rt: &HostRuntime, word: &[u8]) -> Told {
     say::about(rt, word, ": no such command");
-    it_goes(rt, GOES)
+    goes(rt, None)
 }
 
 // The word is an option that the command does not take.
-pub fn wrong_option(rt: &HostRuntime, verb: Verb, word: &[u8]) -> Told {
-    wrong(rt, verb, word, ": no such option")
+pub fn wrong_option(rt: &HostRuntime, verb: Option<Verb>, word: &[u8]) -> Told {
+    wrong(rt, verb, word, b": no such option")
 }
 
-pub fn too_few(rt: &HostRuntime, verb: Verb) -> Told {
+pub fn too_few(rt: &HostRuntime, verb: Option<Verb>) -> Told {
     say::line(rt, "a word is missing");
     goes(rt, verb)
 }
 
 // The word is the first that is too many.
-pub fn too_many(rt: &HostRuntime, verb: Verb, word: &[u8]) -> Told {
-    wrong(rt, verb, word, ": one word too many")
+pub fn too_many(rt: &HostRuntime, verb: Option<Verb>, word: &[u8]) -> Told {
+    wrong(rt, verb, word, b": one word too many")
 }
 
-// What was wrong with a word, and how the command goes.
-pub fn wrong(rt: &HostRuntime, verb: Verb, word: &[u8], said: &str) -> Told {
-    say::about(rt, word, said);
+// What was wrong with a word, and how the command goes. (What is said is bytes, as the word is: it may be no UTF-8 either.)
+pub fn wrong(rt: &HostRuntime, verb: Option<Verb>, word: &[u8], said: &[u8]) -> Told {
+    say::name(rt);
+    say::words(rt, word);
+    say::words(rt, said);
+    say::words(rt, b"\n");
     goes(rt, verb)
 }
 

@@ -66,13 +66,16 @@ impl Line {
         self
     }
 
-    // The line with a number behind what it has, and then a sign: a space, or the LF.
+    // The line with a number behind what it has, and then a sign: a space, or the LF. (By digits of its own: those of `digits` are a line, and
+    // to make and copy one for each number took a third more for a tile's line.)
     fn with_number(self, n: usize, sign: u8) -> Line
         requires { length self + 21 ≤ 112 }
         ensures is { result ≡ self ++ decimal n ++ (sign ∷ []) }
         ensures length_bound { length result ≤ length self + 21 }
     {
-        self.with_words(digits(n).text()).with_words(&[sign])
+        let mut digits = [0u8; 20];
+        let count = io::decimal(n as u64, &mut digits);
+        self.with_words(&digits[..count]).with_words(&[sign])
     }
 
     // The line with what was found in a tile behind what it has, and the LF.

@@ -33,7 +33,7 @@ pub fn write(rt: &HostRuntime, asked: Asked) -> Result<(), Told> {
     let Asked { plain, force, .. } = asked;
     let new = asked::word(rt, 0)?;
     if plain <= BEFORE {
-        return Err(guide::too_few(rt, Verb::Write));
+        return Err(guide::too_few(rt, Some(Verb::Write)));
     }
     let plan = Plan::asked(rt, plain - BEFORE)?;
     let target = Target {
@@ -74,7 +74,7 @@ fn not_taken(rt: &HostRuntime, p: usize, l: usize, refusal: Refusal) -> Told {
             format_args!("refused {number}: at this size no slope is {l}"),
         ),
     };
-    guide::goes(rt, Verb::Write)
+    guide::goes(rt, Some(Verb::Write))
 }
 
 // Says that a tile would have a number that is too large.
@@ -83,7 +83,7 @@ fn too_many(rt: &HostRuntime) -> Told {
         rt,
         format_args!("the last tile's number is above {}", words::LARGEST),
     );
-    guide::goes(rt, Verb::Write)
+    guide::goes(rt, Some(Verb::Write))
 }
 
 // Says that a text is refused.

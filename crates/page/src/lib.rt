@@ -5,6 +5,9 @@ ghost use Rattle.std.specs.Prelude.{◌≡◌, ◌-◌, ◌≤◌, length};
 
 use lettering::line;
 
+// The most digits that a number has.
+pub const DIGITS: usize = 20;
+
 // A page: bytes that are lent to it, and how many of them are used.
 #[derive(Drop)]
 pub struct Page<'a> {

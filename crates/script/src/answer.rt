@@ -5,93 +5,98 @@ use promise::Repaired;
 use reel::Found;
 use sheet::Fault;
 use size::Refusal;
-use std::io::Write;
 
-pub fn words(rt: &HostRuntime, text: &[u8]) {
-    let _ = rt.stdout().write_all(text);
+// The number that the system knows standard output by. (What is written needs no runtime: a caller may have none.)
+const STANDARD_OUTPUT: i32 = 1;
+
+pub fn words(text: &[u8]) {
+    io::write_all(STANDARD_OUTPUT, text);
 }
 
-pub fn count(rt: &HostRuntime, word: &str, n: usize) {
-    let _ = print!(rt; "{word} {n}");
+pub fn count(word: &[u8], n: usize) {
+    words(word);
+    words(b" ");
+    io::print_decimal(STANDARD_OUTPUT, n as u64);
 }
 
-pub fn bytes(rt: &HostRuntime, list: &[u8]) {
-    words(rt, b":");
+pub fn bytes(list: &[u8]) {
+    words(b":");
     for byte in list {
-        let _ = print!(rt; " {byte:02x}");
+        words(b" ");
+        io::print_hex(STANDARD_OUTPUT, u64::from(*byte), 2);
     }
 }
 
-pub fn refused(rt: &HostRuntime, refusal: Refusal) {
-    count(rt, " refused", size::number(refusal));
+pub fn refused(refusal: Refusal) {
+    count(b" refused", size::number(refusal));
 }
 
 // Done, or why not.
-pub fn outcome(rt: &HostRuntime, outcome: Result<(), Refusal>) {
+pub fn outcome(outcome: Result<(), Refusal>) {
     match outcome {
-        Ok(()) => words(rt, b" done"),
-        Err(refusal) => refused(rt, refusal),
+        Ok(()) => words(b" done"),
+        Err(refusal) => refused(refusal),
     }
 }
 
-pub fn repaired(rt: &HostRuntime, repaired: Result<Repaired, Refusal>) {
+pub fn repaired(repaired: Result<Repaired, Refusal>) {
     match repaired {
-        Ok(Repaired::Clean) => words(rt, b" clean"),
+        Ok(Repaired::Clean) => words(b" clean"),
         Ok(Repaired::Cell(r, c)) => {
-            count(rt, " cell", r);
-            count(rt, "", c);
+            count(b" cell", r);
+            count(b"", c);
         }
-        Ok(Repaired::Column(c)) => count(rt, " column", c),
-        Ok(Repaired::Row(r)) => count(rt, " row", r),
-        Err(refusal) => refused(rt, refusal),
+        Ok(Repaired::Column(c)) => count(b" column", c),
+        Ok(Repaired::Row(r)) => count(b" row", r),
+        Err(refusal) => refused(refusal),
     }
 }
 
 // The number of records, or a refusal's number and the offset of the faulty record.
-pub fn corrected(rt: &HostRuntime, corrected: Result<usize, Fault>) {
+pub fn corrected(corrected: Result<usize, Fault>) {
     match corrected {
-        Ok(n) => count(rt, " records", n),
+        Ok(n) => count(b" records", n),
         Err(fault) => {
-            refused(rt, fault.refusal);
-            count(rt, " at", fault.at);
+            refused(fault.refusal);
+            count(b" at", fault.at);
         }
     }
 }
 
 // A tile's kind, where it is old, its number, size and slope, its flags, where it has any, and where its bytes begin; the end; or a
 // refusal's number and offset.
-pub fn found(rt: &HostRuntime, found: Found) {
+pub fn found(found: Found) {
     match found {
         Found::Tile(tile) => {
             if tile.kind == Kind::Old {
-                words(rt, b" old");
+                words(b" old");
             }
-            count(rt, " tile", tile.number);
-            count(rt, "", tile.p);
-            count(rt, "", tile.l);
-            flag(rt, b" first flag", tile.first);
-            flag(rt, b" second flag", tile.second);
-            count(rt, " at", tile.at);
+            count(b" tile", tile.number);
+            count(b"", tile.p);
+            count(b"", tile.l);
+            flag(b" first flag", tile.first);
+            flag(b" second flag", tile.second);
+            count(b" at", tile.at);
         }
-        Found::End => words(rt, b" end"),
+        Found::End => words(b" end"),
         Found::Refused(refusal, at) => {
-            refused(rt, refusal);
-            count(rt, " at", at);
+            refused(refusal);
+            count(b" at", at);
         }
     }
 }
 
 // Which flag it is, and its line; of none, nothing.
-fn flag(rt: &HostRuntime, name: &[u8], flag: Option<Line>) {
+fn flag(name: &[u8], flag: Option<Line>) {
     if let Some(lost) = flag {
-        words(rt, name);
-        line(rt, lost);
+        words(name);
+        line(lost);
     }
 }
 
-fn line(rt: &HostRuntime, line: Line) {
+fn line(line: Line) {
     match line {
-        Line::Row(r) => count(rt, " row", r),
-        Line::Column(c) => count(rt, " column", c),
+        Line::Row(r) => count(b" row", r),
+        Line::Column(c) => count(b" column", c),
     }
 }

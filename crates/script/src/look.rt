@@ -8,7 +8,7 @@ use code::Kind;
 use walk::sums::both_sums;
 
 // By the first letter of its name.
-pub fn look(rt: &HostRuntime, question: Question, held: &[u8]) {
+pub fn look(question: Question, held: &[u8]) {
     let Question {
         name,
         kind,
@@ -17,56 +17,56 @@ pub fn look(rt: &HostRuntime, question: Question, held: &[u8]) {
         ..
     } = question;
     match name {
-        b'h' => house(rt, p),
-        b'j' => judge(rt, kind, p, l),
-        b's' => sums(rt, p, l, held),
-        _ => place(rt, p.wrapping_sub(l), held),
+        b'h' => house(p),
+        b'j' => judge(kind, p, l),
+        b's' => sums(p, l, held),
+        _ => place(p.wrapping_sub(l), held),
     }
 }
 
-fn house(rt: &HostRuntime, p: usize) {
+fn house(p: usize) {
     match size::house_slope(p) {
-        Ok(l) => answer::count(rt, " slope", l),
-        Err(refusal) => answer::refused(rt, refusal),
+        Ok(l) => answer::count(b" slope", l),
+        Err(refusal) => answer::refused(refusal),
     }
 }
 
-fn judge(rt: &HostRuntime, kind: Kind, p: usize, l: usize) {
+fn judge(kind: Kind, p: usize, l: usize) {
     match size::judge(kind, p, l) {
-        Ok(()) => answer::words(rt, b" taken"),
-        Err(refusal) => answer::refused(rt, refusal),
+        Ok(()) => answer::words(b" taken"),
+        Err(refusal) => answer::refused(refusal),
     }
 }
 
 // The sums of the lines of a slope, where there are any: of every slope but 0, also of one that the calls refuse.
-fn sums(rt: &HostRuntime, p: usize, s: usize, tile: &[u8]) {
+fn sums(p: usize, s: usize, tile: &[u8]) {
     if !size::takes_size(p) {
         return;
     }
     if 0 < s && s < p && tile.len() == promise::tile_length(p) {
-        sums_along(rt, p, s, tile);
+        sums_along(p, s, tile);
     }
 }
 
-fn sums_along(rt: &HostRuntime, p: usize, s: usize, tile: &[u8])
+fn sums_along(p: usize, s: usize, tile: &[u8])
     requires { Shape p s (length tile.now) }
 {
     let mut ones = [0u8; 257];
     let mut sums = [0u8; 257];
     both_sums(p, s, tile, &mut ones, &mut sums);
-    answer::words(rt, b" sums");
-    answer::bytes(rt, &sums[..p]);
+    answer::words(b" sums");
+    answer::bytes(&sums[..p]);
 }
 
 // What stands at a place of a reel, the place after it, how long the rest is and what it begins with; what stands behind the first
 // record, as the reader finds it; and the bytes of the tile at the place.
-fn place(rt: &HostRuntime, at: usize, reel: &[u8]) {
+fn place(at: usize, reel: &[u8]) {
     let rest = reel::rest(reel, at);
-    answer::found(rt, reel::next(reel, at));
-    answer::count(rt, " after", reel::after(reel, at));
-    answer::count(rt, " rest", rest.len());
-    answer::found(rt, reel::next(rest, 0));
-    answer::words(rt, b" second");
-    answer::found(rt, reel::reader::second(reel));
-    answer::bytes(rt, reel::bytes(reel, at));
+    answer::found(reel::next(reel, at));
+    answer::count(b" after", reel::after(reel, at));
+    answer::count(b" rest", rest.len());
+    answer::found(reel::next(rest, 0));
+    answer::words(b" second");
+    answer::found(reel::reader::second(reel));
+    answer::bytes(reel::bytes(reel, at));
 }

@@ -17,6 +17,28 @@ pub struct Question {
     pub second: Line,
 }
 
+// What the columns of a line tell, whether it asks a question or not; of one that is too short, nothing.
+pub fn numbers(line: &[u8]) -> Question {
+    if line.len() < COLUMNS {
+        return Question {
+            name: b' ',
+            kind: Kind::New,
+            p: 0,
+            l: 0,
+            first: Line::Row(0),
+            second: Line::Row(0),
+        };
+    }
+    Question {
+        name: line[0],
+        kind: kind(line[7]),
+        p: number(line, 8),
+        l: number(line, 12),
+        first: flagged(line, 16),
+        second: flagged(line, 20),
+    }
+}
+
 // The question that a line asks, by its columns, if it asks one.
 pub fn read(line: &[u8]) -> Option<Question>
     ensures { IfSome result (λ question. 24 ≤ length line.now) }
@@ -24,14 +46,7 @@ pub fn read(line: &[u8]) -> Option<Question>
     if line.len() < COLUMNS || line[COLUMNS - 1] != b':' {
         return None;
     }
-    Some(Question {
-        name: line[0],
-        kind: kind(line[7]),
-        p: number(line, 8),
-        l: number(line, 12),
-        first: flagged(line, 16),
-        second: flagged(line, 20),
-    })
+    Some(numbers(line))
 }
 
 // The kind of a tile: o for an old one.

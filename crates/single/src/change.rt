@@ -61,8 +61,14 @@ pub fn fill(rt: &HostRuntime, asked: Asked) -> Result<(), Status> {
 pub fn correct(rt: &HostRuntime, force: bool) -> Result<(), Status> {
     let wanted = Wanted::asked(rt, Verb::Correct, force)?;
     let name = asked::word(rt, 3)?;
+    by_sheet(rt, &wanted, name.bytes())
+}
+
+// Corrects it by the sheet that has a name. (In a frame of its own, of which the room comes first: so it is cleared but once.)
+#[inline(never)]
+fn by_sheet(rt: &HostRuntime, wanted: &Wanted, name: &[u8]) -> Result<(), Status> {
     let mut room = [0; SHEET_ROOM];
-    let sheet = Sheet::read(rt, name.bytes(), &mut room)?;
+    let sheet = Sheet::read(rt, name, &mut room)?;
     wanted.make(rt, &sheet)
 }
 
@@ -98,7 +104,9 @@ impl Wanted {
     }
 }
 
-// Looks for the tile, copies what stands before it, and changes it in its window; if that is not refused, copies the rest of the reel.
+// Looks for the tile, copies what stands before it, and changes it in its window; if that is not refused, copies the rest of the reel. (In a
+// frame of its own: so no room is taken while the words are looked at.)
+#[inline(never)]
 fn changed<C: Change>(
     rt: &HostRuntime,
     reel: &Input,
@@ -123,7 +131,7 @@ fn line_word(rt: &HostRuntime, k: usize) -> Result<Line, Told> {
     let word = asked::word(rt, k)?;
     match words::line(word.bytes()) {
         Some(line) => Ok(line),
-        None => Err(guide::wrong(rt, Verb::Fill, word.bytes(), ": no line")),
+        None => Err(guide::wrong(rt, Some(Verb::Fill), word.bytes(), b": no line")),
     }
 }
 

@@ -22,9 +22,15 @@ pub fn read(rt: &HostRuntime) -> Result<(), Status> {
     let name = asked::word(rt, 0)?;
     let number = asked::number(rt, Verb::Read, 1)?;
     let reel = Input::open(rt, name.bytes())?;
+    read_from(rt, &reel, number)
+}
+
+// The same of a reel that is open. (In a frame of its own, of which the room comes first: so it is cleared but once.)
+#[inline(never)]
+fn read_from(rt: &HostRuntime, reel: &Input, number: usize) -> Result<(), Status> {
     let mut room = [0; windows::WINDOW];
     let clock = Clock::begun(rt, false);
-    let mut windows = Windows::begun(rt, &reel, None, &mut room, clock)?;
+    let mut windows = Windows::begun(rt, reel, None, &mut room, clock)?;
     let tile = find(rt, &mut windows, number)?;
     restore(rt, &mut windows, tile)?;
     print_text(rt, &mut windows, tile)

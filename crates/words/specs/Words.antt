@@ -131,3 +131,21 @@ pub data Takes : Verb → Sort → Type 0 where
   fill_force : Takes verb.Fill Force
   correct_force : Takes verb.Correct Force
   map_text : Takes verb.Map Text
+
+-- ---- what is taken behind a first word, which may name no command
+
+-- SPEC 12: the fewest plain words behind it. Behind a word that names no command none is wanted, ..
+abbrev pub fewest_behind : Option Verb → ℕ
+fewest_behind (Some v) = fewest_words v
+fewest_behind None = 0
+
+-- SPEC 12: .. and of none there are any. The most of them
+abbrev pub most_behind : Option Verb → ℕ
+most_behind (Some v) = most_words v
+most_behind None = 0
+
+-- SPEC 12.1: the sorts of words that are taken behind it: plain ones always, and the options of the command that it names. What is of no
+-- sort is never taken
+pub data TakesBehind : Option Verb → Option Sort → Type 0 where
+  any_plain : {first : Option Verb} → TakesBehind first (Some Plain)
+  its_own : {v : Verb} {s : Sort} → Takes v s → TakesBehind (Some v) (Some s)

@@ -4,7 +4,7 @@
 
 ghost use Rattle.std.specs.Prelude.{◌≡◌};
 ghost use Rattle.code.specs.Says.{Says};
-ghost use Rattle.words.specs.Words.{VerbIs, SortIs, AmountIs, LineIs, name_of, fewest_words, most_words, Takes};
+ghost use Rattle.words.specs.Words.{VerbIs, SortIs, AmountIs, LineIs, name_of, fewest_words, most_words, Takes, fewest_behind, most_behind, TakesBehind};
 
 use code::Line;
 
@@ -100,6 +100,33 @@ pub fn line(word: &[u8]) -> Option<Line>
         return number(digits).ok().map(Line::Column);
     }
     None
+}
+
+// The fewest plain words behind a first word that names this command, or that names none: behind that one none is wanted.
+pub fn fewest(verb: Option<Verb>) -> usize
+    ensures { result ≡ fewest_behind verb }
+{
+    verb.map_or(0, Verb::fewest)
+}
+
+// The most of them.
+pub fn most(verb: Option<Verb>) -> usize
+    ensures { result ≡ most_behind verb }
+{
+    verb.map_or(0, Verb::most)
+}
+
+// Is a word of this sort, or of none, taken behind such a first word?
+pub fn takes(verb: Option<Verb>, sort: Option<Sort>) -> bool
+    ensures { Says result (TakesBehind verb sort) }
+{
+    let Some(sort) = sort else {
+        return false;
+    };
+    match verb {
+        Some(verb) => verb.takes(sort),
+        None => matches!(sort, Sort::Plain),
+    }
 }
 
 impl Verb {

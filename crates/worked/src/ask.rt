@@ -5,7 +5,7 @@ use script::look::look;
 use script::question::Question;
 
 // `held` may be changed by a call, `lent` is only read.
-pub fn ask(rt: &HostRuntime, question: Question, held: &mut [u8], lent: &[u8]) {
+pub fn ask(question: Question, held: &mut [u8], lent: &[u8]) {
     let Question {
         name,
         kind,
@@ -15,14 +15,14 @@ pub fn ask(rt: &HostRuntime, question: Question, held: &mut [u8], lent: &[u8]) {
         second,
     } = question;
     match name {
-        b'w' => answer::outcome(rt, tile::write(kind, p, l, lent, held)),
-        b'r' => answer::outcome(rt, tile::read(kind, p, l, lent, held)),
-        b'm' => answer::repaired(rt, tile::repair(kind, p, l, held)),
-        b'l' => answer::repaired(rt, tile::inspect(kind, p, l, held)),
-        b't' => answer::repaired(rt, tile::recover(kind, p, l, lent, held)),
-        b'f' => answer::outcome(rt, tile::fill(kind, p, l, held, first, second)),
-        b'a' => answer::outcome(rt, tile::judge(p, l, lent, held, first, second)),
-        b'c' => answer::corrected(rt, sheet::correct(kind, p, l, held, lent)),
-        _ => look(rt, question, held),
+        b'w' => answer::outcome(tile::write(kind, p, l, lent, held)),
+        b'r' => answer::outcome(tile::read(kind, p, l, lent, held)),
+        b'm' => answer::repaired(tile::repair(kind, p, l, held)),
+        b'l' => answer::repaired(tile::inspect(kind, p, l, held)),
+        b't' => answer::repaired(tile::recover(kind, p, l, lent, held)),
+        b'f' => answer::outcome(tile::fill(kind, p, l, held, first, second)),
+        b'a' => answer::outcome(tile::judge(p, l, lent, held, first, second)),
+        b'c' => answer::corrected(sheet::correct(kind, p, l, held, lent)),
+        _ => look(question, held),
     }
 }

@@ -9,24 +9,24 @@ use script::{answer, question};
 // The number that the system knows standard input by.
 const STANDARD_INPUT: i32 = 0;
 
-fn main(rt: HostRuntime) {
+fn main() {
     let mut script = io::large_buffer();
     let n = io::read_full(STANDARD_INPUT, &mut script);
-    run(&rt, &script[..n]);
+    run(&script[..n]);
 }
 
-fn run(rt: &HostRuntime, script: &[u8]) {
+fn run(script: &[u8]) {
     for line in script.split_inclusive(|sign| *sign == b'\n') {
         let line = line.strip_suffix(b"\n").unwrap_or(line);
-        answer::words(rt, line);
-        obey(rt, line);
-        answer::words(rt, b"\n");
+        answer::words(line);
+        obey(line);
+        answer::words(b"\n");
     }
 }
 
 // Does what a line asks, if it is a question. Behind its columns stand the bytes that the call may change, and behind a second colon those
 // that it only reads.
-fn obey(rt: &HostRuntime, line: &[u8]) {
+fn obey(line: &[u8]) {
     let Some(asked) = question::read(line) else {
         return;
     };
@@ -40,7 +40,7 @@ fn obey(rt: &HostRuntime, line: &[u8]) {
     let mut second = io::buffer();
     let held = question::lay(held, &mut first);
     let lent = question::lay(lent, &mut second);
-    answer::words(rt, b"\n ");
-    ask::ask(rt, asked, held, lent);
-    answer::bytes(rt, held);
+    answer::words(b"\n ");
+    ask::ask(asked, held, lent);
+    answer::bytes(held);
 }
