@@ -90,14 +90,14 @@ impl<'a> NewReel<'a> {
 fn may_be_made(rt: &HostRuntime, reel: Option<&Source>, target: Target) -> Result<(), Told> {
     let Target { name, force } = target;
     if input::is_standard(name) {
-        return Err(say::about(rt, name, ": no name for a new reel"));
+        return Err(say::about(rt, name, b": no name for a new reel"));
     }
     if !is_there(rt, name) {
         return Ok(());
     }
     if let Some(reel) = reel {
         if same::is_reel(rt, reel, target) {
-            return Err(say::about(rt, name, ": the reel itself"));
+            return Err(say::about(rt, name, b": the reel itself"));
         }
     }
     if !force {
@@ -117,7 +117,7 @@ fn is_there(rt: &HostRuntime, name: &[u8]) -> bool {
 
 // Says that something is there under the name.
 fn is_taken(rt: &HostRuntime, name: &[u8]) -> Told {
-    say::about(rt, name, ": exists already; --force replaces it")
+    say::about(rt, name, b": exists already; --force replaces it")
 }
 
 // Makes the file of a new reel, which is not there yet. It may not take the number of a standard stream that is closed.
@@ -125,7 +125,7 @@ fn create(rt: &HostRuntime, part: &[u8]) -> Result<File, Told> {
     match create_new(rt, part) {
         Ok(file) if file.as_raw_fd() < 3 => {
             take_away(rt, part);
-            Err(say::line(rt, "standard output: closed"))
+            Err(say::line(rt, b"standard output: closed"))
         }
         Ok(file) => Ok(file),
         Err(error) => Err(not_made(rt, part, error)),
@@ -146,7 +146,7 @@ fn not_made(rt: &HostRuntime, part: &[u8], error: Error) -> Told {
         say::about(
             rt,
             part,
-            ": exists already; it is another run's, or was left by one that was interrupted",
+            b": exists already; it is another run's, or was left by one that was interrupted",
         )
     } else {
         say::failed(rt, part, error)

@@ -48,7 +48,11 @@ impl Clock {
             self.progress = Progress::Due;
             return;
         }
-        let _ = eprint!(rt; "\r\x1b[Kcounterfrost: {tiles} tiles, {bytes} bytes");
+        say::words(rt, b"\r\x1b[Kcounterfrost: ");
+        say::number(rt, tiles);
+        say::words(rt, b" tiles, ");
+        say::number(rt, bytes);
+        say::words(rt, b" bytes");
         self.progress = Progress::Shown;
     }
 

@@ -1,14 +1,21 @@
 // What is said on standard error. Every line begins with the command's name. Where it cannot be written either, nobody is left to tell.
+// (A message goes out in pieces, each of which is written whole or not at all. A `write!` would put them together, and so write others where
+// the system has no room for all of it.)
 ghost use Rattle.io.specs.Counts.{IsPrefixLen};
 
 use crate::told::Told;
 use lettering::line;
-use std::fmt::{Display, InlineText};
+use std::fmt::InlineText;
 use std::io::Error;
 
 // Words as they are.
 pub fn words(rt: &HostRuntime, said: &[u8]) {
     let _ = rt.stderr().write_all(said);
+}
+
+// A number.
+pub fn number(rt: &HostRuntime, n: usize) {
+    words(rt, line::digits(n).text());
 }
 
 // The beginning of a line.
@@ -17,23 +24,31 @@ pub fn name(rt: &HostRuntime) {
 }
 
 // A whole line on what is wrong.
-pub fn line<D: Display + Drop>(rt: &HostRuntime, said: D) -> Told {
-    let _ = eprintln!(rt; "counterfrost: {said}");
+pub fn line(rt: &HostRuntime, said: &[u8]) -> Told {
+    name(rt);
+    words(rt, said);
+    words(rt, b"\n");
     Told
 }
 
 // A line on what is wrong with a word or a file. Its name is written as it is, since it may be no UTF-8.
-pub fn about<D: Display + Drop>(rt: &HostRuntime, what: &[u8], said: D) -> Told {
+pub fn about(rt: &HostRuntime, what: &[u8], said: &[u8]) -> Told {
     name(rt);
     words(rt, what);
-    let _ = rt.eprintln(said);
+    words(rt, said);
+    words(rt, b"\n");
     Told
 }
 
 // Why the system refused, in its own words.
 pub fn failed(rt: &HostRuntime, what: &[u8], error: Error) -> Told {
     let said = InlineText::<256>::of(error);
-    about(rt, what, format_args!(": {}", own_words(said.as_str())))
+    name(rt);
+    words(rt, what);
+    words(rt, b": ");
+    words(rt, own_words(said.as_str()).as_bytes());
+    words(rt, b"\n");
+    Told
 }
 
 // Why the output could not be written.

@@ -42,5 +42,5 @@ impl Failure {
 
 // Says that a reel has more bytes or tiles than can be counted.
 pub fn too_long(rt: &HostRuntime, reel: &[u8]) -> Told {
-    say::about(rt, reel, ": too long")
+    say::about(rt, reel, b": too long")
 }

@@ -66,33 +66,37 @@ fn judged(rt: &HostRuntime, p: usize, l: usize) -> Result<(), Told>
 
 // Says why the size or the slope is refused.
 fn not_taken(rt: &HostRuntime, p: usize, l: usize, refusal: Refusal) -> Told {
-    let number = size::number(refusal);
-    let _told = match refusal {
-        Refusal::BadSize => say::line(rt, format_args!("refused {number}: no size is {p}")),
-        _ => say::line(
-            rt,
-            format_args!("refused {number}: at this size no slope is {l}"),
-        ),
-    };
+    say::name(rt);
+    say::words(rt, b"refused ");
+    say::number(rt, size::number(refusal));
+    match refusal {
+        Refusal::BadSize => {
+            say::words(rt, b": no size is ");
+            say::number(rt, p);
+        }
+        _ => {
+            say::words(rt, b": at this size no slope is ");
+            say::number(rt, l);
+        }
+    }
+    say::words(rt, b"\n");
     guide::goes(rt, Some(Verb::Write))
 }
 
 // Says that a tile would have a number that is too large.
 fn too_many(rt: &HostRuntime) -> Told {
-    let _told = say::line(
-        rt,
-        format_args!("the last tile's number is above {}", words::LARGEST),
-    );
+    say::line(rt, b"the last tile's number is above 4294967295");
     guide::goes(rt, Some(Verb::Write))
 }
 
 // Says that a text is refused.
 fn refused(rt: &HostRuntime, name: &[u8], refusal: Refusal) -> Told {
-    say::about(
-        rt,
-        name,
-        format_args!(": refused {}", size::number(refusal)),
-    )
+    say::name(rt);
+    say::words(rt, name);
+    say::words(rt, b": refused ");
+    say::number(rt, size::number(refusal));
+    say::words(rt, b"\n");
+    Told
 }
 
 // The bytes of the largest record without flags, and a few more.
@@ -147,14 +151,14 @@ impl Plan {
 
     // Says how long a text has to be.
     fn wrong_length(&self, rt: &HostRuntime, name: &[u8]) -> Told {
-        let number = size::number(Refusal::BadLength);
-        let length = promise::text_length(self.p);
-        let p = self.p;
-        say::about(
-            rt,
-            name,
-            format_args!(": refused {number}: a text has {length} bytes at size {p}"),
-        )
+        say::name(rt);
+        say::words(rt, name);
+        say::words(rt, b": refused 3: a text has ");
+        say::number(rt, promise::text_length(self.p));
+        say::words(rt, b" bytes at size ");
+        say::number(rt, self.p);
+        say::words(rt, b"\n");
+        Told
     }
 
     // Makes the tile of a text.

@@ -174,7 +174,7 @@ impl<'a> Sheet<'a> {
     fn read(rt: &HostRuntime, name: &'a [u8], room: &'a mut [u8]) -> Result<Sheet<'a>, Told> {
         let records = Input::open(rt, name)?.read(rt, room)?;
         if records.len() > SHEET {
-            return Err(say::about(rt, name, format_args!(": longer than {} bytes", SHEET)));
+            return Err(say::about(rt, name, b": longer than 131072 bytes"));
         }
         Ok(Sheet { name, records })
     }
@@ -196,12 +196,14 @@ impl<'a> Change for Sheet<'a> {
                 Ok(say::print(rt, &page[..used])?)
             }
             Err(Fault { refusal, at }) => {
-                let number = size::number(refusal);
-                Err(Status::from(say::about(
-                    rt,
-                    self.name,
-                    format_args!(": refused {number} at {at}"),
-                )))
+                say::name(rt);
+                say::words(rt, self.name);
+                say::words(rt, b": refused ");
+                say::number(rt, size::number(refusal));
+                say::words(rt, b" at ");
+                say::number(rt, at);
+                say::words(rt, b"\n");
+                Err(Status::Failed)
             }
         }
     }

@@ -42,7 +42,11 @@ fn find(rt: &HostRuntime, reel: &mut Windows, number: usize) -> Result<Tile, Sta
         Ok(tile) => Ok(tile),
         Err(passed) => {
             say::listed(rt, closing_line(passed));
-            let _told = say::about(rt, reel.name(), format_args!(": no tile {number}"));
+            say::name(rt);
+            say::words(rt, reel.name());
+            say::words(rt, b": no tile ");
+            say::number(rt, number);
+            say::words(rt, b"\n");
             Err(Status::Wrong)
         }
     }
