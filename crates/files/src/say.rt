@@ -1,6 +1,6 @@
 // What is said on standard error. Every line begins with the command's name. Where it cannot be written either, nobody is left to tell.
-// (A message goes out in pieces, each of which is written whole or not at all. A `write!` would put them together, and so write others where
-// the system has no room for all of it.)
+// (A message goes out in pieces, a write for each. A `write!` would put them together, and less would be said where the system has no room
+// for all of it.)
 ghost use Rattle.io.specs.Counts.{IsPrefixLen};
 
 use crate::told::Told;
