@@ -4,7 +4,7 @@ use Rattle.std.proofs.Common.{arith}
 use Rattle.code.specs.declared.Line.TheVariants.{Row}
 use Rattle.code.specs.Says.{Says}
 use Rattle.lettering.specs.Line.{ascii}
-use Rattle.words.specs.Words.{VerbIs, SortIs, AmountIs, LineIs, Takes, correct_force}
+use Rattle.words.specs.Words.{VerbIs, SortIs, AmountIs, LineIs, Takes, repair_force, correct_force, fewest_behind, most_behind, TakesBehind, its_own}
 use Rattle.words.specs.Once.{verb_once, sort_once, amount_once, line_once}
 use Rattle.words.specs.Worked.{lists_none, read_taken, short_plain, hyphen_plain, a_behind, next_too_large, column_three, row_alone}
 use Rattle.words.specs.declared.Verb.TheVariants as verb
@@ -51,3 +51,27 @@ correct_refuses f = f correct_force
 -- and one by which `list` takes `--text`, as `map` does
 pub list_takes_text : Says true (Takes verb.List Text) → ⊥
 list_takes_text = elim [ ]
+
+-- one that wants a word where no command is named ..
+pub wants_for_none : fewest_behind None ≡ 1 → ⊥
+wants_for_none e = omega (arith, e)
+
+-- .. and one that writes a reel of no text
+pub writes_nothing : fewest_behind (Some verb.Write) ≡ 4 → ⊥
+writes_nothing e = omega (arith, e)
+
+-- one that lets a word stand where no command is named ..
+pub takes_for_none : most_behind None ≡ 1 → ⊥
+takes_for_none e = omega (arith, e)
+
+-- .. and one that fills one line alone
+pub one_line_alone : most_behind (Some verb.Fill) ≡ 4 → ⊥
+one_line_alone e = omega (arith, e)
+
+-- one that takes `--force` where no command is named ..
+pub forced_for_none : Says true (TakesBehind None (Some Force)) → ⊥
+forced_for_none = elim [ ]
+
+-- .. and one by which `repair` is not the one that it names
+pub repair_not_named : Says false (TakesBehind (Some verb.Repair) (Some Force)) → ⊥
+repair_not_named f = f (its_own repair_force)

@@ -134,12 +134,12 @@ pub data Takes : Verb → Sort → Type 0 where
 
 -- ---- what is taken behind a first word, which may name no command
 
--- SPEC 12: the fewest plain words behind it. Behind a word that names no command none is wanted, ..
+-- SPEC 12: the fewest plain words behind it. Behind a word that names no command none has to stand, ..
 abbrev pub fewest_behind : Option Verb → ℕ
 fewest_behind (Some v) = fewest_words v
 fewest_behind None = 0
 
--- SPEC 12: .. and of none there are any. The most of them
+-- SPEC 12: .. and none may. The most of them
 abbrev pub most_behind : Option Verb → ℕ
 most_behind (Some v) = most_words v
 most_behind None = 0
